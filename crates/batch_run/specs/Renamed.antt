@@ -13,7 +13,8 @@ use Rattle.analysis.specs.Analysis.{AnalysisValue, analysis_of}
 use Rattle.analysis.specs.Naming.{Names}
 use Rattle.analysis.specs.Parts.{AreMembers}
 use Rattle.analysis.specs.Tables.{IsOpened}
-use Rattle.rename_rules.specs.First.{IsFirst, offences_of}
+use Rattle.offences.specs.First.{IsFirst}
+use Rattle.rename_rules.specs.Offences.{offences_of}
 use Rattle.rename_rules.specs.Runs.{new_bytes}
 use Rattle.rename_meaning.specs.EditedSource.{HoldsMembers}
 use Rattle.renamed.specs.Renamed.{TextsAreRenamed, AnalysisIsRenamed, ExternalNamesAreKept}

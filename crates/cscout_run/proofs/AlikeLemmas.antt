@@ -14,10 +14,11 @@ use Rattle.analysis.specs.Analysis.{AnalysisValue, analysis_of}
 use Rattle.analysis.specs.Naming.{Names}
 use Rattle.analysis.specs.Parts.{part_cmp}
 use Rattle.analysis.proofs.ListingLemmas.{part_cmp-total}
-use Rattle.rename_rules.specs.First.{IsAmong, offences_of}
+use Rattle.offences.specs.First.{IsAmong}
+use Rattle.rename_rules.specs.Offences.{offences_of}
 use Rattle.rename_rules.specs.Renaming.{Refusal, IsRenamed, IsClassRenamed, IsNamedRenamed, IsRenaming}
 use Rattle.analysis.proofs.PartLemmas.{part_once}
-use Rattle.kept_analysis.proofs.MemberLemmas.{AreIn, one_list, same_lists}
+use Rattle.offences.proofs.MemberListLemmas.{AreIn, one_list, same_lists}
 use Rattle.rename_meaning.proofs.RefusalLemmas.{refusals_are_one}
 use Rattle.unused_names.specs.Order.{position_cmp}
 use Rattle.unused_names.specs.Unneeded.{AreUnneeded}

@@ -13,7 +13,7 @@ use Rattle.std.proofs.lemmas.List.Folds.{Any-from_list_any, list_any_at}
 use Rattle.std.proofs.lemmas.Map.Keys.{Less-from_sorted, sorted_from_all_adjacent}
 use Rattle.std.proofs.lemmas.Option.{slice_get-get_or, slice_get_within, get_or_from_slice_get}
 use Rattle.analysis.specs.Analysis.{AnalysisValue}
-use Rattle.rename_rules.specs.First.{IsAmong}
+use Rattle.offences.specs.First.{IsAmong}
 use Rattle.calls_of.specs.declared.nodes.Node.{Node}
 use Rattle.calls_of.specs.declared.nodes.Edge.{Edge}
 use Rattle.calls_of.specs.Graph.{GraphValue, IsWithin, graph, leads, is_edge, comes_before, are_in_order}
@@ -21,7 +21,7 @@ use Rattle.calls_of.specs.Calls.{Call, call, calls_of}
 use Rattle.calls_of.specs.Graphs.{IsCallIn, IsGraphOf, node_cmp, nodes_of}
 use Rattle.calls_of.specs.Numbers.{edge_cmp}
 use Rattle.calls_of.proofs.NodeLemmas.{node_cmp-strict, edge_cmp-strict, before-less}
-use Rattle.kept_analysis.proofs.MemberLemmas.{AreIn, same_lists}
+use Rattle.offences.proofs.MemberListLemmas.{AreIn, same_lists}
 
 -- ---- elements
 

@@ -37,7 +37,7 @@ use Rattle.calls_of.specs.Graph.{GraphValue}
 use Rattle.calls_of.specs.Graphs.{calls_text}
 use Rattle.cscout_run.proofs.CallsLemmas.{one_graph}
 use Rattle.cscout_run.specs.Stopping.{Stops, stop_reads, status_of, line_of}
-use Rattle.kept_analysis.proofs.MemberLemmas.{one_list}
+use Rattle.offences.proofs.MemberListLemmas.{one_list}
 use Rattle.cscout_run.proofs.AlikeLemmas.{one_found, one_named, one_unneeded, one_unused, renamings_once}
 use Rattle.cscout_run.proofs.LineLemmas.{batch-alike, same-answer}
 use Rattle.cscout_run.proofs.WorkspaceLemmas.{read_is_workspace}

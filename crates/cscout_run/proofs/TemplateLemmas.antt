@@ -10,7 +10,7 @@ use Rattle.ws_file.specs.Workspace.{WorkspaceValue, IsWorkspace}
 use Rattle.analysis.specs.Below.source_files.Files.{Source}
 use Rattle.analysis.specs.Analysis.{AnalysisValue, analysis_of}
 use Rattle.analysis.specs.Places.{place_at}
-use Rattle.rename_rules.specs.declared.offences.Offence.{Offence as AnOffence}
+use Rattle.offences.specs.declared.firsts.Offence.{Offence as AnOffence}
 use Rattle.template_rules.specs.Functions.{has_function}
 use Rattle.template_rules.specs.Lists.{count_of}
 use Rattle.template_rules.specs.Offences.{offences_of}
@@ -23,7 +23,7 @@ use Rattle.cscout_run.specs.Answer.{IsTemplateAnswer}
 use Rattle.cscout_run.specs.Steps.{template_stop}
 use Rattle.cscout_run.specs.Stopping.{Stops}
 use Rattle.cs_base.proofs.CauseLemmas.{one_cause}
-use Rattle.kept_analysis.proofs.MemberLemmas.{one_list}
+use Rattle.offences.proofs.MemberListLemmas.{one_list}
 use Rattle.rename_meaning.proofs.RefusalLemmas.{firsts_are_tied}
 use Rattle.cscout_run.proofs.AlikeLemmas.{one_named, none_stands}
 

@@ -12,7 +12,8 @@ use Rattle.analysis.specs.Analysis.{AnalysisValue, analysis_of}
 use Rattle.analysis.specs.Naming.{Names}
 use Rattle.analysis.specs.Parts.{AreMembers}
 use Rattle.analysis.specs.Tables.{IsOpened}
-use Rattle.rename_rules.specs.First.{IsAmong, IsFirst, offences_of}
+use Rattle.offences.specs.First.{IsAmong, IsFirst}
+use Rattle.rename_rules.specs.Offences.{offences_of}
 use Rattle.rename_rules.specs.Runs.{runs, file_of, new_bytes}
 use Rattle.batch_run.specs.Line.{LineValue}
 use Rattle.batch_run.specs.Batch.{Plan, IsBatch, after_each}

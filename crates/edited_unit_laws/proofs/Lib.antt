@@ -17,6 +17,11 @@ mod BadLinesLemmas
 mod ItemLemmas
 mod FollowLemmas
 pub mod FitLemmas
+pub mod ListLemmas
+pub mod FileLemmas
+pub mod TableTokenLemmas
+pub mod TracedLemmas
+pub mod AnalysedUnitLemmas
 mod TextLemmas
 mod NameLemmas
 mod MacroLemmas

@@ -13,6 +13,9 @@
 //! and its file tokens, where the renamed tokens read and bind as before. What must be kept are premises here: this
 //! crate knows no class and no offence.
 //!
+//! Lemmas that both renamings and new orders ask for stand here too, in `proofs/`: the tokens of files and of the units of an
+//! analysis, where they stand and of what they are made.
+//!
 //! `reordered.rt`: where the lists of each unit stand in it and in its runs, as `units_are_reordered` of `unit_laws`
 //! asks, and tokens in the new order are read and bound, the units of the workspace over the edited files are those
 //! with their tokens in the new order, each read and bound. What is asked of trees and names is said in the crates that

@@ -16,15 +16,16 @@ use Rattle.analysis.specs.Parts.{AreMembers, IsPart}
 use Rattle.analysis.proofs.ClassLemmas.{part_told}
 use Rattle.rename_meaning.specs.Allowed.{IsAllowed}
 use Rattle.part_respell.specs.Respelled.{respelled}
-use Rattle.rename_rules.specs.First.{IsFirst, offences_of}
+use Rattle.offences.specs.First.{IsFirst}
+use Rattle.rename_rules.specs.Offences.{offences_of}
 use Rattle.rename_meaning.proofs.FollowLinkLemmas.{classes_follow}
 use Rattle.rename_meaning.proofs.ReadLemmas.{unit_has_tree}
 use Rattle.kept_analysis.specs.declared.moves.Moves.{Moves}
 use Rattle.kept_analysis.specs.Following.{IsFollowed, IsReadAsBefore, IsRenamedIn, renamed_by}
 use Rattle.kept_analysis.specs.Edits.{edited_front}
 use Rattle.kept_analysis.specs.Moves.{AreMoves, editing_by, renaming_by}
-use Rattle.kept_analysis.proofs.FollowLemmas.{analysis_same, renaming_same}
-use Rattle.kept_analysis.proofs.MemberLemmas.{one_list}
+use Rattle.kept_analysis.proofs.FollowLemmas.{analysis_same}
+use Rattle.offences.proofs.MemberListLemmas.{one_list}
 
 -- what holds of a value that a call gave
 pub if_ok : {X E : Type 0} (r : Result X E) (P Q : X → Type 0) → ((x : X) → P x → Q x) → IfOk r P → IfOk r Q

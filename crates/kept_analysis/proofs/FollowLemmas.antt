@@ -18,7 +18,7 @@ use Rattle.analysis.specs.Analysed.{Analysed}
 use Rattle.analysis.specs.Analysis.{analysis_and}
 use Rattle.analysis.specs.Parts.{IsCharacter, IsPart}
 use Rattle.rename_meaning.specs.Allowed.{IsAllowed}
-use Rattle.rename_meaning.proofs.ListLemmas.{In, found}
+use Rattle.edited_unit_laws.proofs.ListLemmas.{In, found}
 use Rattle.rename_meaning.proofs.NoneLemmas.{no_line, none_stand}
 use Rattle.rename_meaning.proofs.KeptFileLemmas.{made_stays, respelled_same}
 use Rattle.rename_meaning.proofs.OneMoveLemmas.{InText, in_text}

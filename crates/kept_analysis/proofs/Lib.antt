@@ -8,5 +8,4 @@ mod EditLemmas
 mod FollowLemmas
 mod AdvanceLemmas
 -- For callers.
-pub mod MemberLemmas
 pub mod PlannedLemmas

@@ -8,8 +8,9 @@ use Rattle.analysis.specs.Naming.{Names}
 use Rattle.analysis.specs.Parts.{AreMembers}
 use Rattle.analysis.specs.Trees.{HasTree}
 use Rattle.part_respell.specs.Respelled.{respelled}
-use Rattle.rename_rules.specs.First.{IsFirst, offences_of}
-use Rattle.renamed.specs.Renamed.{Renaming, renamed_analysis, renamed_text, renamed_unit_analysis, renaming_of}
+use Rattle.offences.specs.First.{IsFirst}
+use Rattle.rename_rules.specs.Offences.{offences_of}
+use Rattle.renamed.specs.Renamed.{renamed_analysis, renamed_unit_analysis, renaming_of}
 use Rattle.kept_analysis.specs.declared.moves.Moves.{Moves}
 use Rattle.kept_analysis.specs.Edits.{edited_front}
 use Rattle.kept_analysis.specs.Moves.{editing_by, renaming_by}

@@ -17,7 +17,7 @@ use Rattle.analysis.specs.Below.scope_bind.declared.bound.Name.{Name}
 use Rattle.analysis.specs.Below.scope_bind.Bound.{Bound, binding_of}
 use Rattle.analysis.specs.Below.scope_bind.Walk.{walked}
 use Rattle.rename_rules.specs.Tokens.{holders}
-use Rattle.rename_meaning.proofs.ListLemmas.{In, any_at}
+use Rattle.edited_unit_laws.proofs.ListLemmas.{In, any_at}
 use Rattle.meaning_rows.specs.Rows.{member, BreaksMeaning, IsOffence, two_objects, pasted_name, pasted_names, hidden_typedef}
 use Rattle.meaning_rows.proofs.OffenceLemmas as offences
 use Rattle.meaning_rows.proofs.RowLemmas.{breaks, its_bound}

@@ -15,12 +15,14 @@ use Rattle.analysis.specs.Below.scope_bind.Bound.{Bound}
 use Rattle.analysis.specs.Analysis.{UnitAnalysis, AnalysisValue}
 use Rattle.analysis.specs.FileTokens.{file_tokens}
 use Rattle.analysis.proofs.NamingLemmas.{in_left, in_right, in_filter, map_at}
-use Rattle.rename_rules.specs.declared.offences.Offence.{Offence}
-use Rattle.rename_rules.specs.First.{offence, standing, member_offences, spelling_offences, offences_of}
-use Rattle.rename_rules.specs.Offences.{occurring_place, occurring_places, clashing_place, clashing_places, too_large_places, is_shadow, bare_place, bare_places, shadowed_places}
-use Rattle.rename_rules.specs.Tokens.{all_file_tokens, pasted_tokens, holds_member, starts_in, holders, is_new_spelling, is_old_spelling, first_place, clashes}
-use Rattle.rename_meaning.proofs.ListLemmas.{In, in_flat}
-use Rattle.rename_meaning.proofs.MemberLemmas.{file_token, any_file_token}
+use Rattle.offences.specs.declared.firsts.Offence.{Offence}
+use Rattle.offences.specs.First.{offence, standing}
+use Rattle.rename_rules.specs.Offences.{member_offences, spelling_offences, offences_of, occurring_place, occurring_places, clashing_place, clashing_places, too_large_places, is_shadow, bare_place, bare_places, shadowed_places}
+use Rattle.rename_rules.specs.Tokens.{all_file_tokens, pasted_tokens, starts_in, holders, is_new_spelling, is_old_spelling, clashes}
+use Rattle.offences.specs.Tokens.{holds_member, first_place}
+use Rattle.edited_unit_laws.proofs.ListLemmas.{In, in_flat}
+use Rattle.rename_meaning.proofs.MemberLemmas.{any_file_token}
+use Rattle.edited_unit_laws.proofs.TableTokenLemmas.{file_token}
 use Rattle.meaning_rows.specs.Rows.{Row, IsOf}
 
 module _ (a : AnalysisValue) (members : List Part) (name : List ℕ) where

@@ -24,8 +24,9 @@ use Rattle.analysis.specs.FileTokens.{file_tokens}
 use Rattle.analysis.proofs.NamingLemmas.{in_left, in_right, in_filter}
 use Rattle.edited_unit_laws.specs.Lines.{Each}
 use Rattle.edited_unit_laws.specs.Analyses.{ReadsAlike}
-use Rattle.rename_rules.specs.Tokens.{pasted_tokens, holds_member, holders}
-use Rattle.rename_meaning.proofs.ListLemmas.{In, in_flat, any_at}
+use Rattle.rename_rules.specs.Tokens.{pasted_tokens, holders}
+use Rattle.offences.specs.Tokens.{holds_member}
+use Rattle.edited_unit_laws.proofs.ListLemmas.{In, in_flat, any_at}
 use Rattle.renamed.specs.Renamed.{Renaming, spell_from, renaming_of, renamed_analysis, renamed_unit_analysis, ExternalName, external_name, external_if, external_at, is_one_entity, denote_one}
 use Rattle.meaning_rows.specs.Rows.{member}
 use Rattle.meaning_rows.specs.Shared.{TwoUnits, Tokens, Has, AreOf, StandsAgainst, KeepsEachReading, BreaksSharing, KeepsDeclared, declared_name, two_names}

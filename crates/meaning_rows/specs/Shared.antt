@@ -20,7 +20,8 @@ use Rattle.analysis.specs.Below.include_tree.Preprocessed.{Preprocessed, preproc
 use Rattle.analysis.specs.Below.include_tree.Unit.{unit_outcome}
 use Rattle.analysis.specs.Analysis.{UnitAnalysis, AnalysisValue}
 use Rattle.edited_unit_laws.specs.Analyses.{IsRead}
-use Rattle.rename_rules.specs.First.{IsAmong, offence, offences_of}
+use Rattle.offences.specs.First.{IsAmong, offence}
+use Rattle.rename_rules.specs.Offences.{offences_of}
 use Rattle.renamed.specs.Renamed.{AnalysisIsRenamed, ExternalNamesAreKept, denote_one, renamed_analysis, renaming_of}
 use Rattle.part_respell.specs.Respelled.{respelled}
 use Rattle.meaning_rows.specs.Clause.{UnitsReadAlike}

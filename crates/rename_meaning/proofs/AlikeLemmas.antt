@@ -18,12 +18,12 @@ use Rattle.analysis.specs.Classes.{AreItsClasses}
 use Rattle.analysis.specs.Links.{links_of, linked_pairs, pair_of}
 use Rattle.analysis.specs.Parts.{Begins, IsCharacter, IsStart, IsPart}
 use Rattle.analysis.proofs.ClassLemmas.{character_told, same_told, same_held, part_held, held_by}
-use Rattle.rename_rules.specs.Class.{IsClass}
+use Rattle.offences.specs.Class.{IsClass}
 use Rattle.analysis.proofs.Below.eclass_map.PartPlaces.{same_pos}
-use Rattle.rename_rules.proofs.ClassLemmas.{over_member, over_other}
-use Rattle.rename_meaning.proofs.ListLemmas.{In}
+use Rattle.offences.proofs.ClassLemmas.{over_member, over_other}
+use Rattle.edited_unit_laws.proofs.ListLemmas.{In}
 use Rattle.rename_meaning.proofs.SpellLemmas.{PutAlike, spelled-alike}
-use Rattle.rename_meaning.proofs.TracedLemmas.{GoOn, AreChained, Traced}
+use Rattle.edited_unit_laws.proofs.TracedLemmas.{GoOn, AreChained, Traced}
 
 same_then : (t : Table) (p q r : Pos) → Same t p q → Same t q r → Same t p r
 same_then t p q r s u = record { at = s.at; first = s.first; second = u.second ∙ sym u.first ∙ s.second }

@@ -25,7 +25,7 @@ use Rattle.include_tree.specs.Walk.{ItemText, item_texts, items_in}
 use Rattle.analysis.specs.Below.eclass_map.Positions.{holds}
 use Rattle.analysis.proofs.Below.eclass_map.TokenFacts.{holding}
 use Rattle.part_respell.specs.Respelled.{spelled}
-use Rattle.rename_rules.specs.Tokens.{holds_member}
+use Rattle.offences.specs.Tokens.{holds_member}
 use Rattle.edited_unit_laws.specs.Lines.{Each, defines, parameters_of}
 use Rattle.unit_laws.specs.UnitItems.{taken}
 use Rattle.unit_laws.specs.ToldNames.{LinksAgree}
@@ -40,18 +40,19 @@ use Rattle.analysis.proofs.NamingLemmas.{split_at, any_in}
 use Rattle.analysis.proofs.PlaceNameLemmas.{kept_number}
 use Rattle.rename_meaning.specs.Allowed.{IsAllowed}
 use Rattle.rename_meaning.specs.KeptLines.{UsesStayAlike, LineStaysAlike}
-use Rattle.rename_meaning.proofs.ListLemmas.{In, any_at}
+use Rattle.edited_unit_laws.proofs.ListLemmas.{In, any_at}
 use Rattle.rename_meaning.proofs.ApartLemmas.{any_member, free-stays, file_told, held_parted}
 use Rattle.rename_meaning.proofs.DirectiveLemmas.{none_in, in_drop, in_together, lines-together, taken_listed}
-use Rattle.rename_meaning.proofs.FileLemmas.{token_stands}
+use Rattle.edited_unit_laws.proofs.FileLemmas.{token_stands}
 use Rattle.rename_meaning.proofs.KeptLemmas.{token_held, once}
 use Rattle.rename_meaning.proofs.KeptTokenLemmas.{each_of}
-use Rattle.rename_meaning.proofs.MemberLemmas.{file_token, span_is, over_in}
+use Rattle.rename_meaning.proofs.MemberLemmas.{over_in}
+use Rattle.edited_unit_laws.proofs.TableTokenLemmas.{file_token, span_is}
 use Rattle.rename_meaning.proofs.NoneLemmas.{none_stand, no_line}
 use Rattle.rename_meaning.proofs.ProcessedLemmas.{taken_reached, taken_by, flat_element, part_in_token, member_lies}
 use Rattle.rename_meaning.proofs.SpellLemmas.{is_from, origin_in}
-use Rattle.rename_meaning.proofs.TracedLemmas.{source_of_kept}
-use Rattle.rename_meaning.proofs.UnitsLemmas.{unit_is, number_origin}
+use Rattle.edited_unit_laws.proofs.TracedLemmas.{source_of_kept}
+use Rattle.edited_unit_laws.proofs.AnalysedUnitLemmas.{unit_is, number_origin}
 use Rattle.rename_meaning.specs.ReachedLines.{LinesStayAlikeWhereNamed}
 use Rattle.rename_meaning.proofs.KeptNameLemmas.{links_agree}
 use Rattle.rename_meaning.proofs.LineItemLemmas.{item_is_line, define_line}

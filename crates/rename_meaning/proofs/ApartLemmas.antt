@@ -21,17 +21,19 @@ use Rattle.analysis.specs.Analysis.{UnitAnalysis, AnalysisValue}
 use Rattle.analysis.specs.FileTokens.{file_tokens}
 use Rattle.analysis.proofs.NamingLemmas.{in_left, in_right}
 use Rattle.analysis.proofs.TokenPlaceLemmas.{token_placed}
-use Rattle.rename_rules.specs.Tokens.{all_file_tokens, first_place, holds_member, pasted_tokens}
+use Rattle.rename_rules.specs.Tokens.{all_file_tokens, pasted_tokens}
+use Rattle.offences.specs.Tokens.{first_place, holds_member}
 use Rattle.rename_meaning.specs.Allowed.{IsAllowed}
 use Rattle.rename_meaning.specs.Spellings.{IsPasted, IsOfFileOrName, OthersStayApart}
-use Rattle.rename_meaning.proofs.ListLemmas.{In, all_at, cons_nil, in_flat}
+use Rattle.edited_unit_laws.proofs.ListLemmas.{In, all_at, cons_nil, in_flat}
 use Rattle.rename_meaning.proofs.LinkLemmas.{IsWhole, pasted_whole, whole_chained}
-use Rattle.rename_meaning.proofs.TracedLemmas.{AreChained, spelled_fits}
-use Rattle.rename_meaning.proofs.UnitsLemmas.{unit_is}
-use Rattle.rename_meaning.proofs.FileLemmas.{token_stands}
+use Rattle.edited_unit_laws.proofs.TracedLemmas.{AreChained, spelled_fits}
+use Rattle.edited_unit_laws.proofs.AnalysedUnitLemmas.{unit_is}
+use Rattle.edited_unit_laws.proofs.FileLemmas.{token_stands}
 use Rattle.rename_meaning.proofs.SpellLemmas.{is_from, spelled-kept}
 use Rattle.rename_meaning.proofs.NoneLemmas.{NoneStand, none_stand, holder, holders_alike, never_occurs}
-use Rattle.rename_meaning.proofs.MemberLemmas.{any_file_token, file_token}
+use Rattle.rename_meaning.proofs.MemberLemmas.{any_file_token}
+use Rattle.edited_unit_laws.proofs.TableTokenLemmas.{file_token}
 use Rattle.rename_meaning.proofs.KeptLemmas.{touched}
 
 -- ---- tokens that offences speak of

@@ -19,18 +19,19 @@ use Rattle.renamed_tree_laws.specs.Loose.{is_hidden, StaysWhole}
 use Rattle.analysis.specs.Analysed.{Analysed}
 use Rattle.analysis.specs.Analysis.{UnitAnalysis, AnalysisValue}
 use Rattle.rename_rules.specs.Offences.{is_shadow, hides_typedef, bare_place, bare_places, shadowed_places}
-use Rattle.rename_rules.specs.Tokens.{holds_member, holders, is_old_spelling, first_place}
+use Rattle.rename_rules.specs.Tokens.{holders, is_old_spelling}
+use Rattle.offences.specs.Tokens.{holds_member, first_place}
 use Rattle.rename_meaning.specs.Allowed.{IsAllowed}
 use Rattle.rename_meaning.specs.KeptTokens.{Spells}
 use Rattle.rename_meaning.specs.Renamings.{KeepsUnedited}
 use Rattle.rename_meaning.proofs.ApartLemmas.{parted_stays}
 use Rattle.rename_meaning.proofs.LinkLemmas.{whole_chained}
-use Rattle.rename_meaning.proofs.ListLemmas.{In, cons_nil, flat_nil, any_at}
+use Rattle.edited_unit_laws.proofs.ListLemmas.{In, cons_nil, flat_nil, any_at}
 use Rattle.rename_meaning.proofs.NoneLemmas.{NoneStand, none_stand, holder}
 use Rattle.rename_meaning.proofs.OccurringLemmas.{name_like, parted_one, like_spelled}
-use Rattle.rename_meaning.proofs.TracedLemmas.{AreChained}
-use Rattle.c99_grammar.specs.Dialects.{edition}
-use Rattle.c99_grammar.specs.Standard.{iso}
+use Rattle.edited_unit_laws.proofs.TracedLemmas.{AreChained}
+use Rattle.c99_grammar.specs.Dialects.{dialect}
+use Rattle.c99_grammar.specs.Standard.{grammar}
 use Rattle.c99_read.specs.State.{base_at, is_identifier}
 use Rattle.rename_meaning.proofs.LinkedNameLemmas.{named_token}
 use Rattle.rename_meaning.proofs.NamedLemmas.{NameAt, OtherAt, alike_from, whole, old_identifier, old_at, new_at, look}

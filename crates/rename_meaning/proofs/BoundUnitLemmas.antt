@@ -22,7 +22,7 @@ use Rattle.rename_meaning.specs.Allowed.{IsAllowed}
 use Rattle.rename_meaning.specs.KeptTokens.{Spells}
 use Rattle.rename_meaning.specs.Renamings.{KeepsUnedited, renaming}
 use Rattle.rename_meaning.proofs.LinkLemmas.{linked_stay_alike}
-use Rattle.rename_meaning.proofs.ListLemmas.{In, all_of, all_at}
+use Rattle.edited_unit_laws.proofs.ListLemmas.{In, all_of, all_at}
 use Rattle.rename_meaning.proofs.RenamingLemmas.{renamings_spell}
 use Rattle.rename_meaning.proofs.UneditedLemmas.{renamings_keep_unedited}
 use Rattle.rename_meaning.specs.BoundUnits.{NamesBindAsBefore, UnitsAreRenamedWhole, UnitsBindAsBefore}

@@ -19,9 +19,10 @@ use Rattle.analysis.specs.Parts.{IsCharacter}
 use Rattle.analysis.proofs.NamingLemmas.{split_at, filter_in}
 use Rattle.analysis.proofs.PlaceNameLemmas.{kept_number}
 use Rattle.analysis.proofs.TokenPlaceLemmas.{tokens_in_line}
-use Rattle.rename_meaning.proofs.ListLemmas.{In}
-use Rattle.rename_meaning.proofs.MemberLemmas.{InFile, in_table, span_among}
-use Rattle.rename_meaning.proofs.UnitsLemmas.{unit_is, number_origin}
+use Rattle.edited_unit_laws.proofs.ListLemmas.{In}
+use Rattle.rename_meaning.proofs.MemberLemmas.{InFile}
+use Rattle.edited_unit_laws.proofs.TableTokenLemmas.{in_table, span_among}
+use Rattle.edited_unit_laws.proofs.AnalysedUnitLemmas.{unit_is, number_origin}
 
 module _ (a : AnalysisValue) (source : Source) (ws : WorkspaceValue) (accepted : analysis_of source ws ≡ Ok a) where
   -- a number that a unit brought stands in the pseudo file of lines

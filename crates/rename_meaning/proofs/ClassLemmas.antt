@@ -27,7 +27,7 @@ use Rattle.analysis.specs.Analysis.{UnitAnalysis}
 use Rattle.rename_meaning.specs.Allowed.{IsAllowed}
 use Rattle.rename_meaning.specs.KeptTokens.{Spells}
 use Rattle.rename_meaning.specs.Renamings.{KeepsUnedited}
-use Rattle.rename_meaning.proofs.ListLemmas.{In}
+use Rattle.edited_unit_laws.proofs.ListLemmas.{In}
 use Rattle.rename_meaning.proofs.NamedLemmas.{reserved_same, as_long}
 use Rattle.rename_meaning.proofs.UnitTokenLemmas.{tokens_kept}
 

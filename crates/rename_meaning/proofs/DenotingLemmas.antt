@@ -27,7 +27,7 @@ use Rattle.analysis.proofs.NamingLemmas.{in_filter}
 use Rattle.rename_meaning.specs.Allowed.{IsAllowed}
 use Rattle.rename_meaning.specs.KeptTokens.{Spells}
 use Rattle.rename_meaning.specs.Renamings.{KeepsUnedited}
-use Rattle.rename_meaning.proofs.ListLemmas.{In, all_at, in_flat}
+use Rattle.edited_unit_laws.proofs.ListLemmas.{In, all_at, in_flat}
 use Rattle.rename_meaning.proofs.RenamingLemmas.{spell-same}
 use Rattle.rename_meaning.proofs.UneditedLemmas.{renamings_keep_unedited}
 use Rattle.rename_meaning.specs.KeptUnits.{change}

@@ -23,7 +23,7 @@ use Rattle.line_shape.specs.Signs.{is_name, is_hash}
 use Rattle.source_files.specs.HeaderNames.{is_header}
 use Rattle.include_tree.specs.Walk.{ItemText, item_text, item_texts}
 use Rattle.unit_laws.specs.UnitItems.{expanded_name, taken}
-use Rattle.rename_meaning.proofs.ListLemmas.{In, AllOf}
+use Rattle.edited_unit_laws.proofs.ListLemmas.{In, AllOf}
 
 -- ---- lists
 

@@ -16,10 +16,11 @@ use Rattle.include_tree.specs.PseudoFiles.{is_pseudo}
 use Rattle.analysis.specs.Analysis.{AnalysisValue}
 use Rattle.analysis.specs.Places.{is_read_only_path}
 use Rattle.analysis.specs.Tables.{IsPseudoIfMade, MadeArePseudo}
-use Rattle.rename_rules.specs.First.{IsAmong, offences_of}
+use Rattle.offences.specs.First.{IsAmong}
+use Rattle.rename_rules.specs.Offences.{offences_of}
 use Rattle.rename_rules.specs.Runs.{edit_of, edits_of, file_of, new_bytes, runs}
 use Rattle.analysis.proofs.NamingLemmas.{split_at}
-use Rattle.rename_meaning.proofs.ListLemmas.{In, in_flat}
+use Rattle.edited_unit_laws.proofs.ListLemmas.{In, in_flat}
 use Rattle.rename_meaning.proofs.NoneLemmas.{none_stand, writable}
 use Rattle.rename_meaning.specs.EditedSource.{HoldsMembers}
 use Rattle.rename_meaning.proofs.SourceLemmas.{head_in}

@@ -16,7 +16,7 @@ use Rattle.edited_unit_laws.specs.Links.{SpelledAsBefore, KeepsNamesAfter}
 use Rattle.analysis.proofs.NamingLemmas.{split_at, in_left, in_right}
 use Rattle.rename_meaning.proofs.KeptTokenLemmas.{each_of}
 use Rattle.rename_meaning.proofs.LinkLemmas.{all_both, all_flat}
-use Rattle.rename_meaning.proofs.ListLemmas.{In, AllOf, all_at, found, not_found}
+use Rattle.edited_unit_laws.proofs.ListLemmas.{In, AllOf, all_at, found, not_found}
 use Rattle.rename_meaning.proofs.NamedLemmas.{alike_from}
 
 -- ---- lists

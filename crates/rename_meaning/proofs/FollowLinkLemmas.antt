@@ -30,14 +30,14 @@ use Rattle.analysis.specs.Analysis.{UnitAnalysis, AnalysisValue}
 use Rattle.analysis.specs.Links.{links_of, linked_pairs, pair_of, are_alike}
 use Rattle.analysis.specs.Parts.{IsPart}
 use Rattle.analysis.proofs.ClassLemmas.{part_told, character_told}
-use Rattle.rename_rules.proofs.ClassLemmas.{over_member, over_other}
+use Rattle.offences.proofs.ClassLemmas.{over_member, over_other}
 use Rattle.rename_meaning.specs.Allowed.{IsAllowed}
 use Rattle.rename_meaning.proofs.AlikeLemmas.{AreSameAt, chained_alike}
 use Rattle.rename_meaning.proofs.LinkLemmas.{IsWhole, Both, links_have, toks_whole, links_whole, whole_chained}
-use Rattle.rename_meaning.proofs.ListLemmas.{In, AllOf}
+use Rattle.edited_unit_laws.proofs.ListLemmas.{In, AllOf}
 use Rattle.rename_meaning.proofs.SpellLemmas.{PutAlike}
-use Rattle.rename_meaning.proofs.TracedLemmas.{Traced}
-use Rattle.rename_meaning.proofs.UnitsLemmas.{unit_is}
+use Rattle.edited_unit_laws.proofs.TracedLemmas.{Traced}
+use Rattle.edited_unit_laws.proofs.AnalysedUnitLemmas.{unit_is}
 use Rattle.rename_meaning.specs.KeptUnits.{change}
 use Rattle.rename_meaning.specs.OneMove.{ClassesFollow}
 use Rattle.rename_meaning.proofs.FollowTokenLemmas.{size, put_size, sizes, moves_on, line_still, file_tokens_follow}

@@ -25,11 +25,12 @@ use Rattle.renamed.specs.Renamed.{moved_in, move_to, spell_from, trace_from}
 use Rattle.analysis.proofs.Below.eclass_map.TokenFacts.{holding}
 use Rattle.analysis.proofs.TokenPlaceLemmas.{token_placed}
 use Rattle.rename_meaning.specs.Allowed.{IsAllowed}
-use Rattle.rename_meaning.proofs.FileLemmas.{token_stands}
-use Rattle.rename_meaning.proofs.ListLemmas.{In, found}
-use Rattle.rename_meaning.proofs.MemberLemmas.{over_begins, span_is}
+use Rattle.edited_unit_laws.proofs.FileLemmas.{token_stands}
+use Rattle.edited_unit_laws.proofs.ListLemmas.{In, found}
+use Rattle.rename_meaning.proofs.MemberLemmas.{over_begins}
+use Rattle.edited_unit_laws.proofs.TableTokenLemmas.{span_is}
 use Rattle.rename_meaning.proofs.NoneLemmas.{none_stand, no_line}
-use Rattle.rename_meaning.proofs.UnitsLemmas.{unit_is, number_origin, no_lines}
+use Rattle.edited_unit_laws.proofs.AnalysedUnitLemmas.{unit_is, number_origin, no_lines}
 use Rattle.rename_meaning.specs.KeptUnits.{change}
 use Rattle.rename_meaning.specs.OneMove.{TokensAreMoved, FileTokensFollow}
 use Rattle.rename_meaning.proofs.OneMoveLemmas.{InKept, IsNumber, kept_or_number, span_moves}

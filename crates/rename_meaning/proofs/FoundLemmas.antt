@@ -29,7 +29,7 @@ use Rattle.include_tree.proofs.StayingWalk.{files_stay}
 use Rattle.source_files.proofs.TableLemmas.{widens_asked, widens_opened}
 use Rattle.analysis.specs.Analysis.{UnitsValue, AnalysisValue, analysis_and, with_unit, unit_read, analysed_from, analysis_of}
 use Rattle.analysis.specs.Texts.{UnitFault, unit_fault, unit_with}
-use Rattle.rename_meaning.proofs.UnitsLemmas.{done_first, unmapped, ok_same}
+use Rattle.edited_unit_laws.proofs.AnalysedUnitLemmas.{done_first, unmapped, ok_same}
 
 -- ---- all units
 

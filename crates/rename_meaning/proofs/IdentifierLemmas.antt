@@ -17,7 +17,7 @@ use Rattle.analysis.specs.Analysis.{AnalysisValue}
 use Rattle.analysis.specs.Parts.{AreMembers, Begins}
 use Rattle.rename_meaning.proofs.MemberLemmas.{over_begins}
 use Rattle.rename_meaning.proofs.PutLemmas.{put_words}
-use Rattle.rename_meaning.proofs.TracedLemmas.{AreChained}
+use Rattle.edited_unit_laws.proofs.TracedLemmas.{AreChained}
 use Rattle.lexer.proofs.FitLemmas.{identifier-words}
 
 -- letters, digits and `_` stand for such characters

@@ -37,13 +37,13 @@ use Rattle.rename_meaning.specs.Allowed.{IsAllowed}
 use Rattle.rename_meaning.specs.KeptFiles.{WordsAreFree}
 use Rattle.rename_meaning.specs.KeptLines.{LinesStayAlike}
 use Rattle.rename_meaning.specs.KeptTokens.{Spells}
-use Rattle.rename_meaning.proofs.ListLemmas.{In, all_at, found}
+use Rattle.edited_unit_laws.proofs.ListLemmas.{In, all_at, found}
 use Rattle.rename_meaning.proofs.NoneLemmas.{none_stand, writable}
 use Rattle.rename_meaning.proofs.KeptLineLemmas.{lines_are_kept, from_each}
 use Rattle.rename_meaning.proofs.KeptTokenLemmas.{each_of, tokens_are_kept}
 use Rattle.rename_meaning.proofs.OccurringLemmas.{file_tokens_occur}
 use Rattle.rename_meaning.proofs.RenamingLemmas.{spell-same, edited_files_are_renamed}
-use Rattle.rename_meaning.proofs.TracedLemmas.{source_of_kept}
+use Rattle.edited_unit_laws.proofs.TracedLemmas.{source_of_kept}
 use Rattle.rename_meaning.specs.KeptUnits.{change_by}
 use Rattle.rename_meaning.specs.Limits.{AreWithinLimits}
 use Rattle.rename_meaning.proofs.FoundLemmas.{analysis_finds}

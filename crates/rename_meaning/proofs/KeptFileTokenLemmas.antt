@@ -30,12 +30,12 @@ use Rattle.rename_meaning.specs.KeptTokens.{Spells}
 use Rattle.rename_meaning.specs.Occurring.{KeepsOccurring, occurring_in}
 use Rattle.rename_meaning.specs.Renamings.{KeepsUnedited, name_for}
 use Rattle.rename_meaning.proofs.KeptTokenLemmas.{each_of}
-use Rattle.rename_meaning.proofs.ListLemmas.{In}
+use Rattle.edited_unit_laws.proofs.ListLemmas.{In}
 use Rattle.rename_meaning.proofs.OccurringLemmas.{occurring_are_kept}
 use Rattle.rename_meaning.proofs.ProcessedLemmas.{words_are_free_where_named}
 use Rattle.rename_meaning.proofs.RenamingLemmas.{spell-same, edited_files_are_renamed}
 use Rattle.rename_meaning.proofs.UneditedLemmas.{renamings_keep_unedited}
-use Rattle.rename_meaning.proofs.UnitsLemmas.{IsUnit, unit_is}
+use Rattle.edited_unit_laws.proofs.AnalysedUnitLemmas.{IsUnit, unit_is}
 use Rattle.rename_meaning.proofs.KeptNameLemmas.{line_reserved, told_traced, told_names_are_kept}
 use Rattle.rename_meaning.proofs.OccurLemmas.{units_occur}
 use Rattle.rename_meaning.specs.KeptFileTokens.{FileTokensAreKept, FileTokensAreRenamedWhereNamed}

@@ -31,18 +31,20 @@ use Rattle.analysis.proofs.NamingLemmas.{in_left}
 use Rattle.analysis.proofs.PlaceNameLemmas.{kept_number}
 use Rattle.analysis.proofs.TokenPlaceLemmas.{token_placed, tokens_in_line}
 use Rattle.analysis.proofs.TokenSearchLemmas.{over_once}
-use Rattle.rename_rules.specs.Tokens.{holders, holds_member, pasted_tokens}
+use Rattle.rename_rules.specs.Tokens.{holders, pasted_tokens}
+use Rattle.offences.specs.Tokens.{holds_member}
 use Rattle.edited_unit_laws.specs.Lines.{Each}
 use Rattle.edited_unit_laws.proofs.EditedTokenLemmas.{respell-spelled}
 use Rattle.rename_meaning.specs.Allowed.{IsAllowed}
 use Rattle.rename_meaning.specs.KeptFiles.{WordIsFree, FilesKeepPieces}
-use Rattle.rename_meaning.proofs.ListLemmas.{In, AllOf, all_of, any_at}
-use Rattle.rename_meaning.proofs.FileLemmas.{token_stands, name_spelled, hash_spelled}
+use Rattle.edited_unit_laws.proofs.ListLemmas.{In, AllOf, all_of, any_at}
+use Rattle.edited_unit_laws.proofs.FileLemmas.{token_stands, name_spelled, hash_spelled}
 use Rattle.rename_meaning.proofs.PutLemmas.{BeginsAt, HoldsNone, put-stays, none-stays, names-stand}
 use Rattle.rename_meaning.proofs.SpellLemmas.{is_from, none_from, from_member}
 use Rattle.rename_meaning.proofs.WordLemmas.{WordIs, StaysIn, KeptIn, lines_all, tokens-kept}
 use Rattle.rename_meaning.proofs.NoneLemmas.{NoneStand, none_stand, no_line, holder, holder_name, holder_free}
-use Rattle.rename_meaning.proofs.MemberLemmas.{file_token, span_is, over_in, over_character, over_begins}
+use Rattle.rename_meaning.proofs.MemberLemmas.{over_in, over_character, over_begins}
+use Rattle.edited_unit_laws.proofs.TableTokenLemmas.{file_token, span_is}
 use Rattle.rename_meaning.proofs.CharacterLemmas.{character_file}
 
 -- `L` is reserved

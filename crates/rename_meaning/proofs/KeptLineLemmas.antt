@@ -13,14 +13,14 @@ use Rattle.line_shape.specs.Signs.{is_name, is_close}
 use Rattle.unit_steps.specs.Below.macro_expand.Renaming.{Renaming, renamed}
 use Rattle.unit_steps.specs.Below.macro_expand.Renaming as macros
 use Rattle.part_respell.specs.Respelled.{spelled}
-use Rattle.rename_rules.specs.Tokens.{holds_member}
+use Rattle.offences.specs.Tokens.{holds_member}
 use Rattle.edited_unit_laws.specs.Lines.{Each, KeepsLine, KeepsParameters, NamesAsBefore, parameters_of}
 use Rattle.analysis.specs.Analysed.{Analysed}
 use Rattle.rename_meaning.specs.Allowed.{IsAllowed}
 use Rattle.rename_meaning.specs.KeptFiles.{WordIsFree}
 use Rattle.rename_meaning.specs.KeptLines.{UsesStayAlike, LineStaysAlike, LinesAreKept}
 use Rattle.rename_meaning.specs.KeptTokens.{Spells}
-use Rattle.rename_meaning.proofs.ListLemmas.{AllOf, all_of}
+use Rattle.edited_unit_laws.proofs.ListLemmas.{AllOf, all_of}
 use Rattle.rename_meaning.proofs.NoneLemmas.{none_stand}
 use Rattle.rename_meaning.proofs.ApartLemmas.{IsTold, apart, file_told, parted_of}
 use Rattle.rename_meaning.proofs.KeptTokenLemmas.{free_same}

@@ -29,19 +29,19 @@ use Rattle.analysis.specs.Analysed.{Analysed}
 use Rattle.analysis.specs.Analysis.{UnitAnalysis}
 use Rattle.analysis.specs.Links.{are_alike, unit_links, names_of_units, links_of, occurrence_links}
 use Rattle.analysis.proofs.NamingLemmas.{in_left, in_filter}
-use Rattle.rename_rules.specs.Tokens.{holds_member}
+use Rattle.offences.specs.Tokens.{holds_member}
 use Rattle.rename_meaning.specs.Allowed.{IsAllowed}
 use Rattle.rename_meaning.specs.KeptTokens.{Spells}
 use Rattle.rename_meaning.specs.Renamings.{name_in, names_told, renaming}
-use Rattle.rename_meaning.proofs.ListLemmas.{In, found, not_found, in_flat}
+use Rattle.edited_unit_laws.proofs.ListLemmas.{In, found, not_found, in_flat}
 use Rattle.rename_meaning.proofs.ApartLemmas.{parted_stays}
 use Rattle.rename_meaning.proofs.LinkLemmas.{linked_stay_alike}
 use Rattle.rename_meaning.proofs.NoneLemmas.{none_stand, holder, holder_free}
 use Rattle.rename_meaning.proofs.OccurringLemmas.{IsLike, name_like, like_spelled, parted_one}
 use Rattle.rename_meaning.proofs.ProcessedLemmas.{flat_element}
 use Rattle.rename_meaning.proofs.RenamingLemmas.{renamings_spell}
-use Rattle.rename_meaning.proofs.TracedLemmas.{Traced, spelled_fits}
-use Rattle.rename_meaning.proofs.UnitsLemmas.{IsUnit, unit_is, unit_traced, unit_spelled}
+use Rattle.edited_unit_laws.proofs.TracedLemmas.{Traced, spelled_fits}
+use Rattle.edited_unit_laws.proofs.AnalysedUnitLemmas.{IsUnit, unit_is, unit_traced, unit_spelled}
 use Rattle.rename_meaning.specs.ToldNames.{ToldNamesAreKept}
 use Rattle.rename_meaning.proofs.OccurLemmas.{Occurs, unit_occurs}
 

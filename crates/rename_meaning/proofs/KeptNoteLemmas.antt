@@ -42,16 +42,16 @@ use Rattle.rename_meaning.specs.MadeTokens.{IsOutcome}
 use Rattle.rename_meaning.specs.Occurring.{KeepsOccurring, occurring_in, same_origin}
 use Rattle.rename_meaning.specs.Renamings.{KeepsUnedited, name_for}
 use Rattle.rename_meaning.specs.Spellings.{IsPasted}
-use Rattle.rename_meaning.proofs.ListLemmas.{In, all_at}
+use Rattle.edited_unit_laws.proofs.ListLemmas.{In, all_at}
 use Rattle.rename_meaning.proofs.KeptTokenLemmas.{each_of, pasted_tokens_are_kept}
 use Rattle.rename_meaning.proofs.LinkLemmas.{IsWhole, links_whole, whole_chained, Both}
 use Rattle.rename_meaning.proofs.MadeLemmas.{headers_stay, tokens_are_made_anew}
 use Rattle.rename_meaning.proofs.PieceLemmas.{begins_there}
 use Rattle.rename_meaning.proofs.OccurringLemmas.{occurring_are_kept, origin_is, origin_same, pasted_tokens_occur}
 use Rattle.rename_meaning.proofs.RenamingLemmas.{spell-same}
-use Rattle.rename_meaning.proofs.TracedLemmas.{AreChained, Traced}
+use Rattle.edited_unit_laws.proofs.TracedLemmas.{AreChained, Traced}
 use Rattle.rename_meaning.proofs.UneditedLemmas.{renamings_keep_unedited}
-use Rattle.rename_meaning.proofs.UnitsLemmas.{unit_is, unit_traced, unit_spelled}
+use Rattle.edited_unit_laws.proofs.AnalysedUnitLemmas.{unit_is, unit_traced, unit_spelled}
 use Rattle.rename_meaning.specs.KeptUnits.{change_by}
 use Rattle.rename_meaning.specs.Limits.{AreWithinLimits}
 use Rattle.rename_meaning.specs.ToldNames.{KeepsToldNames}

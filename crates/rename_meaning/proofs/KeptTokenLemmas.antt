@@ -12,12 +12,12 @@ use Rattle.unit_steps.specs.Below.macro_expand.Renaming.{Renaming}
 use Rattle.unit_steps.specs.Below.macro_expand.Renaming as macros
 use Rattle.part_respell.specs.Respelled.{spelled}
 use Rattle.analysis.specs.Analysed.{Analysed}
-use Rattle.rename_rules.specs.Tokens.{holds_member}
+use Rattle.offences.specs.Tokens.{holds_member}
 use Rattle.edited_unit_laws.specs.Lines.{Each, KeepsToken}
 use Rattle.edited_unit_laws.proofs.FitLemmas.{fixed-other, word-back}
 use Rattle.rename_meaning.specs.Allowed.{IsAllowed}
 use Rattle.rename_meaning.specs.KeptTokens.{Spells, TokensAreKept, PastedTokensAreKept}
-use Rattle.rename_meaning.proofs.ListLemmas.{In}
+use Rattle.edited_unit_laws.proofs.ListLemmas.{In}
 use Rattle.rename_meaning.proofs.NoneLemmas.{NoneStand, none_stand, holder, holder_free, holder_name}
 use Rattle.rename_meaning.proofs.ApartLemmas.{IsParted, parted_of, parted_stays, file_told, pasted_parted}
 

@@ -28,9 +28,9 @@ use Rattle.rename_meaning.specs.Allowed.{IsAllowed}
 use Rattle.rename_meaning.specs.KeptFiles.{WordsAreFree}
 use Rattle.rename_meaning.specs.KeptLines.{LinesStayAlike}
 use Rattle.rename_meaning.specs.MadeTokens.{IsOutcome}
-use Rattle.rename_meaning.proofs.ListLemmas.{In}
+use Rattle.edited_unit_laws.proofs.ListLemmas.{In}
 use Rattle.rename_meaning.proofs.ProcessedLemmas.{words_are_free_where_named}
-use Rattle.rename_meaning.proofs.UnitsLemmas.{done_first, unmapped, ok_same, bound_text, units_are}
+use Rattle.edited_unit_laws.proofs.AnalysedUnitLemmas.{done_first, unmapped, ok_same, bound_text, units_are}
 use Rattle.rename_meaning.specs.KeptUnits.{change, change_by, names_in, macro_names, UnitsAreKept, TextsAreRenamedWhereNamed, AnalysisIsRenamedWhereNamed}
 use Rattle.rename_meaning.specs.Limits.{AreWithinLimits}
 use Rattle.rename_meaning.proofs.AlikeLineLemmas.{lines_stay_alike_where_named}

@@ -1,6 +1,4 @@
 -- For the crates of laws above.
-pub mod ListLemmas
-pub mod FileLemmas
 pub mod PutLemmas
 pub mod SpellLemmas
 pub mod StringLemmas
@@ -9,8 +7,6 @@ pub mod WordLemmas
 pub mod NoneLemmas
 pub mod MemberLemmas
 pub mod KeptLemmas
-pub mod TracedLemmas
-pub mod UnitsLemmas
 pub mod CharacterLemmas
 pub mod AlikeLemmas
 pub mod LinkLemmas

@@ -18,7 +18,7 @@ use Rattle.line_shape.specs.Signs.{is_hash}
 use Rattle.include_tree.specs.Walk.{ItemText, item_texts}
 use Rattle.edited_unit_laws.specs.Lines.{defines}
 use Rattle.unit_laws.specs.UnitItems.{taken}
-use Rattle.rename_meaning.proofs.ListLemmas.{In, AllOf, all_at}
+use Rattle.edited_unit_laws.proofs.ListLemmas.{In, AllOf, all_at}
 use Rattle.rename_meaning.proofs.DirectiveLemmas.{in_more, either, first_or, none_in, in_drop, together, lines-together, Between, order_between, split_order, in_together, all_toks, pieces-toks, texts_from, taken_from}
 
 -- ---- lines

@@ -23,10 +23,10 @@ use Rattle.analysis.proofs.NamingLemmas.{filter_in}
 use Rattle.edited_unit_laws.specs.Links.{all_links}
 use Rattle.unit_laws.proofs.NameLemmas.{kind_words}
 use Rattle.rename_meaning.specs.Spellings.{LinkedStayAlike}
-use Rattle.rename_meaning.proofs.ListLemmas.{In, AllOf, all_of, all_at, found}
+use Rattle.edited_unit_laws.proofs.ListLemmas.{In, AllOf, all_of, all_at, found}
 use Rattle.rename_meaning.proofs.AlikeLemmas.{linked_alike}
-use Rattle.rename_meaning.proofs.TracedLemmas.{AreChained, Traced, spelled_fits}
-use Rattle.rename_meaning.proofs.UnitsLemmas.{IsUnit, unit_is, unit_spelled, unit_traced}
+use Rattle.edited_unit_laws.proofs.TracedLemmas.{AreChained, Traced, spelled_fits}
+use Rattle.edited_unit_laws.proofs.AnalysedUnitLemmas.{IsUnit, unit_is, unit_spelled, unit_traced}
 
 -- ---- lists
 

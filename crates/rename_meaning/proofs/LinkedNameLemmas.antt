@@ -25,7 +25,7 @@ use Rattle.scope_bind.specs.Names.{entity_at}
 use Rattle.analysis.specs.Analysis.{UnitAnalysis, AnalysisValue}
 use Rattle.analysis.specs.Links.{is_bound_to, first_occurrence, occurrence_link, occurrence_links, names_of_units, are_alike, unit_links, links_of}
 use Rattle.analysis.proofs.NamingLemmas.{split_at, in_left, in_right, in_filter}
-use Rattle.rename_meaning.proofs.ListLemmas.{In, AllOf, found, in_flat}
+use Rattle.edited_unit_laws.proofs.ListLemmas.{In, AllOf, found, in_flat}
 
 -- ---- lists
 

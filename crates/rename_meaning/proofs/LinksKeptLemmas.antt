@@ -36,11 +36,11 @@ use Rattle.rename_meaning.specs.KeptTokens.{Spells}
 use Rattle.unit_laws.proofs.NoteLemmas.{LinkHas, in_at}
 use Rattle.rename_meaning.proofs.KeptTokenLemmas.{each_of}
 use Rattle.rename_meaning.proofs.LinkLemmas.{IsWhole, Both, UnitsHave, all_links_have, toks_whole, links_whole, linked_stay_alike}
-use Rattle.rename_meaning.proofs.ListLemmas.{In, AllOf, all_of, all_at}
+use Rattle.edited_unit_laws.proofs.ListLemmas.{In, AllOf, all_of, all_at}
 use Rattle.rename_meaning.proofs.OccurLemmas.{Occurs, unit_occurs}
 use Rattle.rename_meaning.proofs.OccurringLemmas.{occurring_are_kept}
 use Rattle.rename_meaning.proofs.RenamingLemmas.{spell-same}
-use Rattle.rename_meaning.proofs.UnitsLemmas.{unit_is}
+use Rattle.edited_unit_laws.proofs.AnalysedUnitLemmas.{unit_is}
 use Rattle.rename_meaning.specs.KeptUnits.{change}
 use Rattle.rename_meaning.specs.KeptLinks.{LinksAreKept, LinksAreRenamedWhereAllowed}
 use Rattle.rename_meaning.proofs.ExternalNameLemmas.{alike_both, NamesHave, IsOfNames, links_of_names, AreTogether, ProjectsTogether, OwnTogether, LinkStays, none_together, all_together, names_kept}

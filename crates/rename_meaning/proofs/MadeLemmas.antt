@@ -38,12 +38,13 @@ use Rattle.analysis.specs.FileTokens.{file_tokens, numbers_brought}
 use Rattle.analysis.specs.Parts.{AreMembers}
 use Rattle.analysis.proofs.NamingLemmas.{in_right, in_left}
 use Rattle.rename_rules.specs.Offences.{header_places}
-use Rattle.rename_rules.specs.Tokens.{holders, holds_member, pasted_tokens, starts_in}
+use Rattle.rename_rules.specs.Tokens.{holders, pasted_tokens, starts_in}
+use Rattle.offences.specs.Tokens.{holds_member}
 use Rattle.lexer.proofs.FitLemmas.{identifier-words}
 use Rattle.rename_meaning.specs.Allowed.{IsAllowed}
 use Rattle.rename_meaning.specs.MadeTokens.{IsOutcome, IsMadeAnew, TokensAreMadeAnew, StringsAreOfRenamedTokens, HeadersStay}
 use Rattle.rename_meaning.specs.Renamings.{renaming}
-use Rattle.rename_meaning.proofs.ListLemmas.{In, all_at, flat_nil, in_flat}
+use Rattle.edited_unit_laws.proofs.ListLemmas.{In, all_at, flat_nil, in_flat}
 use Rattle.rename_meaning.proofs.LinkLemmas.{IsWhole, pasted_whole, whole_chained}
 use Rattle.unit_laws.proofs.NameLemmas.{kind_words}
 use Rattle.rename_meaning.proofs.NoneLemmas.{NoneStand, none_stand, some_start, holder, holder_name}
@@ -52,8 +53,8 @@ use Rattle.rename_meaning.proofs.PutLemmas.{put_words}
 use Rattle.rename_meaning.proofs.RenamingLemmas.{spell-same}
 use Rattle.rename_meaning.proofs.SpellLemmas.{spelled-kept, is_from}
 use Rattle.rename_meaning.proofs.StringLemmas.{IsStringed, spell_append, trace_append, string_spelled, string_traced}
-use Rattle.rename_meaning.proofs.TracedLemmas.{AreChained, Traced, spelled_fits, rules_traced, source_of_kept, digits_length, line_in, answer_in, kept_traced}
-use Rattle.rename_meaning.proofs.UnitsLemmas.{IsUnit, unit_is, unit_traced, no_lines, brought_in}
+use Rattle.edited_unit_laws.proofs.TracedLemmas.{AreChained, Traced, spelled_fits, rules_traced, source_of_kept, digits_length, line_in, answer_in, kept_traced}
+use Rattle.edited_unit_laws.proofs.AnalysedUnitLemmas.{IsUnit, unit_is, unit_traced, no_lines, brought_in}
 use Rattle.renamed.specs.Renamed.{spell_from, moved_in, move_to, trace_from}
 use Rattle.std.specs.Fmt.{decimal}
 use Rattle.std.proofs.lemmas.List.{length-replicate}

@@ -27,7 +27,7 @@ use Rattle.analysis.specs.Places.{path_at}
 use Rattle.rename_rules.specs.Runs.{is_in}
 use Rattle.rename_meaning.specs.Allowed.{IsAllowed}
 use Rattle.rename_meaning.proofs.CharacterLemmas.{character_file}
-use Rattle.rename_meaning.proofs.ListLemmas.{any_at}
+use Rattle.edited_unit_laws.proofs.ListLemmas.{any_at}
 use Rattle.rename_meaning.proofs.NoneLemmas.{none_stand, no_line}
 
 -- ---- each path once

@@ -16,7 +16,7 @@ use Rattle.analysis.proofs.Below.eclass_map.TokenFacts.{Holding, holding, holds_
 use Rattle.lexer.specs.Places.{pos}
 use Rattle.lexer.specs.Respelling.{respell, moved}
 use Rattle.part_respell.specs.Respelled.{put_in, put_at, put_of}
-use Rattle.rename_meaning.proofs.ListLemmas.{In, AllOf}
+use Rattle.edited_unit_laws.proofs.ListLemmas.{In, AllOf}
 use Rattle.rename_meaning.proofs.SameElementLemmas.{Once, total, same_totals}
 
 -- ---- how many members hold a character, and how many begin with it

@@ -10,7 +10,7 @@ use Rattle.analysis.specs.Below.eclass_map.ClassTable.{Table, Spot, label, class
 use Rattle.analysis.specs.Below.eclass_map.Positions.{along, holds}
 use Rattle.analysis.specs.Below.eclass_map.Resized.{Resizes, begins_before, members_before, moved_to, moved_part}
 use Rattle.analysis.proofs.Below.eclass_map.TokenFacts.{holding}
-use Rattle.rename_meaning.proofs.ListLemmas.{In}
+use Rattle.edited_unit_laws.proofs.ListLemmas.{In}
 use Rattle.rename_meaning.proofs.MoveLemmas.{one_if, counted_total}
 use Rattle.rename_meaning.proofs.SameElementLemmas.{total, mapped_at, pos_is}
 

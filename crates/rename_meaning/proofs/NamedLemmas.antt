@@ -19,7 +19,7 @@ use Rattle.unit_steps.specs.Below.macro_expand.Renaming as macros
 use Rattle.c_types.specs.Declarations.{spelling_at, alike}
 use Rattle.tree_laws.specs.RenamedNames.{is_own_word, StaysApart}
 use Rattle.part_respell.specs.Respelled.{spelled}
-use Rattle.rename_rules.specs.Tokens.{holds_member}
+use Rattle.offences.specs.Tokens.{holds_member}
 use Rattle.analysis.specs.Analysed.{Analysed}
 use Rattle.analysis.specs.Analysis.{UnitAnalysis}
 use Rattle.rename_meaning.specs.Allowed.{IsAllowed}
@@ -28,11 +28,11 @@ use Rattle.rename_meaning.specs.Renamings.{KeepsUnedited}
 use Rattle.rename_meaning.proofs.ApartLemmas.{IsParted}
 use Rattle.rename_meaning.proofs.KeptTokenLemmas.{free_same, other_word}
 use Rattle.rename_meaning.proofs.LinkLemmas.{IsWhole, toks_whole, whole_chained}
-use Rattle.rename_meaning.proofs.ListLemmas.{In, all_at}
+use Rattle.edited_unit_laws.proofs.ListLemmas.{In, all_at}
 use Rattle.rename_meaning.proofs.NoneLemmas.{NoneStand, none_stand, holder, holder_free}
 use Rattle.rename_meaning.proofs.OccurringLemmas.{occurring_are_kept, name_like, parted_one}
-use Rattle.rename_meaning.proofs.TracedLemmas.{spelled_fits}
-use Rattle.rename_meaning.proofs.UnitsLemmas.{unit_is}
+use Rattle.edited_unit_laws.proofs.TracedLemmas.{spelled_fits}
+use Rattle.edited_unit_laws.proofs.AnalysedUnitLemmas.{unit_is}
 use Rattle.rename_meaning.proofs.IdentifierLemmas.{identifier_from, fits_name}
 use Rattle.rename_meaning.proofs.SpelledLemmas.{kind_plain, plain_apart, own_word_fixed, fixed_plain, unquoted_word}
 use Rattle.rename_meaning.proofs.UnitTokenLemmas.{tokens_kept}

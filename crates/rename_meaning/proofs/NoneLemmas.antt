@@ -18,10 +18,12 @@ use Rattle.analysis.specs.Analysis.{AnalysisValue}
 use Rattle.analysis.specs.FileTokens.{file_tokens}
 use Rattle.analysis.specs.Places.{is_read_only, is_read_only_path}
 use Rattle.analysis.proofs.NamingLemmas.{in_filter}
-use Rattle.rename_rules.specs.First.{offence, standing, member_offences, spelling_offences, offences_of}
+use Rattle.offences.specs.First.{offence, standing}
+use Rattle.rename_rules.specs.Offences.{member_offences, spelling_offences, offences_of}
 use Rattle.rename_rules.specs.Offences.{read_only_place, read_only_places, reserved_place, reserved_places, kept_string_places, header_places, no_identifier_place, no_identifier_places, occurring_place, occurring_places, clashing_place, clashing_places, too_large_places, shadowed_places}
-use Rattle.rename_rules.specs.Tokens.{all_file_tokens, pasted_tokens, member_of, holds_member, start_of, starts_in, holders, is_new_spelling, clashes, first_place}
-use Rattle.rename_meaning.proofs.ListLemmas.{In, nil_left, nil_right, map_nil, cons_nil, flat_nil, any_at}
+use Rattle.rename_rules.specs.Tokens.{all_file_tokens, pasted_tokens, start_of, starts_in, holders, is_new_spelling, clashes}
+use Rattle.offences.specs.Tokens.{member_of, holds_member, first_place}
+use Rattle.edited_unit_laws.proofs.ListLemmas.{In, nil_left, nil_right, map_nil, cons_nil, flat_nil, any_at}
 
 -- ---- each kind of offence by itself
 

@@ -27,10 +27,10 @@ use Rattle.unit_laws.proofs.PartLemmas.{from_files}
 use Rattle.unit_laws.proofs.TextLemmas.{IsText, text_is, unit_text_has}
 use Rattle.analysis.specs.Analysis.{UnitAnalysis, AnalysisValue}
 use Rattle.rename_meaning.specs.Occurring.{occurring_in}
-use Rattle.rename_meaning.proofs.ListLemmas.{In}
+use Rattle.edited_unit_laws.proofs.ListLemmas.{In}
 use Rattle.rename_meaning.proofs.OccurringLemmas.{file_tokens_occur, pasted_tokens_occur}
-use Rattle.rename_meaning.proofs.TracedLemmas.{source_of_kept}
-use Rattle.rename_meaning.proofs.UnitsLemmas.{IsUnit, unit_is}
+use Rattle.edited_unit_laws.proofs.TracedLemmas.{source_of_kept}
+use Rattle.edited_unit_laws.proofs.AnalysedUnitLemmas.{IsUnit, unit_is}
 use Rattle.rename_meaning.specs.ToldNames.{UnitsOccur}
 
 -- the token occurs

@@ -21,14 +21,15 @@ use Rattle.part_respell.specs.Respelled.{spelled}
 use Rattle.analysis.specs.Analysed.{Analysed}
 use Rattle.analysis.specs.Analysis.{UnitAnalysis, AnalysisValue}
 use Rattle.analysis.proofs.NamingLemmas.{split_at, in_left, in_right, any_in}
-use Rattle.rename_rules.specs.Tokens.{file_toks, entry_tokens, kept_tokens, pasted_tokens, holds_member}
+use Rattle.rename_rules.specs.Tokens.{pasted_tokens}
+use Rattle.offences.specs.Tokens.{file_toks, entry_tokens, kept_tokens, holds_member}
 use Rattle.rename_meaning.specs.Allowed.{IsAllowed}
 use Rattle.rename_meaning.specs.KeptTokens.{Spells}
 use Rattle.rename_meaning.specs.Occurring.{same_origin, same_origins, is_alike, occurring_in, OccurringAreKept, FileTokensOccur, PastedTokensOccur}
 use Rattle.rename_meaning.specs.Spellings.{IsOfFile, IsPasted, IsOfFileOrName}
 use Rattle.rename_meaning.proofs.ApartLemmas.{IsParted, parted_of, file_told, pasted_parted, parted_stays, others_stay_apart}
 use Rattle.rename_meaning.proofs.KeptTokenLemmas.{other_same}
-use Rattle.rename_meaning.proofs.ListLemmas.{In, any_at, in_flat}
+use Rattle.edited_unit_laws.proofs.ListLemmas.{In, any_at, in_flat}
 use Rattle.rename_meaning.proofs.MemberLemmas.{toks_in}
 use Rattle.rename_meaning.proofs.NoneLemmas.{none_stand, holder, holder_free}
 

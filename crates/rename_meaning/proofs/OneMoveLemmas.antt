@@ -34,10 +34,10 @@ use Rattle.analysis.proofs.PlaceNameLemmas.{kept_number}
 use Rattle.analysis.proofs.TokenPlaceLemmas.{token_placed, tokens_in_line}
 use Rattle.rename_meaning.specs.Allowed.{IsAllowed}
 use Rattle.rename_meaning.proofs.CharacterLemmas.{number_file, unit_of, character_file}
-use Rattle.rename_meaning.proofs.ListLemmas.{In, AllOf, all_of}
-use Rattle.rename_meaning.proofs.MemberLemmas.{in_table, file_token, span_among, span_is}
+use Rattle.edited_unit_laws.proofs.ListLemmas.{In, AllOf, all_of}
+use Rattle.edited_unit_laws.proofs.TableTokenLemmas.{in_table, file_token, span_among, span_is}
 use Rattle.rename_meaning.proofs.NoneLemmas.{none_stand, no_line}
-use Rattle.rename_meaning.proofs.UnitsLemmas.{no_lines}
+use Rattle.edited_unit_laws.proofs.AnalysedUnitLemmas.{no_lines}
 use Rattle.rename_meaning.specs.OneMove.{PartsMoveAlike, TokensMoveAlike}
 use Rattle.rename_meaning.proofs.MoveLemmas.{one_if, held_by, before_count, AreWhole, same_before, length_of, moves_alike}
 use Rattle.rename_meaning.proofs.SameElementLemmas.{Once, once_from, mapped_at, pos_is}

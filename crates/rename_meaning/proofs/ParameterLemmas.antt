@@ -22,9 +22,9 @@ use Rattle.unit_steps.specs.Names.{spelled_in, linked_with, parameter_named, def
 use Rattle.unit_steps.specs.Notes.{Note, Linked, link, links_of}
 use Rattle.edited_unit_laws.specs.Lines.{Each, parameters_of}
 use Rattle.analysis.proofs.NamingLemmas.{map_at, filter_in}
-use Rattle.rename_meaning.proofs.ListLemmas.{In, any_at, found, not_found, in_flat}
+use Rattle.edited_unit_laws.proofs.ListLemmas.{In, any_at, found, not_found, in_flat}
 use Rattle.rename_meaning.proofs.DirectiveLemmas.{in_more, first_or, none_in}
-use Rattle.rename_meaning.proofs.FileLemmas.{StandsIn, name_spelled}
+use Rattle.edited_unit_laws.proofs.FileLemmas.{StandsIn, name_spelled}
 use Rattle.rename_meaning.proofs.KeptTokenLemmas.{each_of}
 use Rattle.rename_meaning.proofs.OneTokenLemmas.{word_apart}
 

@@ -21,13 +21,13 @@ use Rattle.analysis.specs.Parts.{AreMembers, Begins}
 use Rattle.renamed.specs.Renamed.{spell_from}
 use Rattle.expansion_laws.proofs.ListLemmas.{AllToks, toks_more}
 use Rattle.expansion_laws.proofs.StringLemmas.{IsEach, along_long, later_long, all_long}
-use Rattle.rename_meaning.proofs.ListLemmas.{found, not_found}
+use Rattle.edited_unit_laws.proofs.ListLemmas.{found, not_found}
 use Rattle.rename_meaning.proofs.MemberLemmas.{over_begins}
 use Rattle.rename_meaning.proofs.OneTokenLemmas.{word_apart}
 use Rattle.rename_meaning.proofs.SpellLemmas.{is_from, for_kept}
 use Rattle.lexer.proofs.FitLemmas.{identifier-words}
 use Rattle.rename_meaning.proofs.StringLemmas.{AllFine, no_backslash}
-use Rattle.rename_meaning.proofs.TracedLemmas.{AreChained, GoOn}
+use Rattle.edited_unit_laws.proofs.TracedLemmas.{AreChained, GoOn}
 
 -- ---- characters
 

@@ -6,7 +6,8 @@ use Rattle.analysis.specs.Below.eclass_map.ClassTable as classes
 use Rattle.lexer.specs.Spelling.{is_identifier_text}
 use Rattle.ws_file.specs.Workspace.{WorkspaceValue, IsWorkspace}
 use Rattle.source_files.specs.Files.{Source}
-use Rattle.rename_rules.specs.First.{IsAmong, offences_of}
+use Rattle.offences.specs.First.{IsAmong}
+use Rattle.rename_rules.specs.Offences.{offences_of}
 use Rattle.rename_rules.specs.Renaming.{IsNamedRenamed, IsRenaming}
 use Rattle.rename_rules.specs.Runs.{edits_of}
 use Rattle.analysis.specs.Analysis.{AnalysisValue, analysis_of}

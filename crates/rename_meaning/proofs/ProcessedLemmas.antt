@@ -43,22 +43,23 @@ use Rattle.analysis.proofs.NamingLemmas.{split_at, in_left, in_right, filter_in,
 use Rattle.analysis.proofs.PlaceNameLemmas.{kept_number}
 use Rattle.analysis.proofs.TokenPlaceLemmas.{token_placed}
 use Rattle.analysis.proofs.Below.eclass_map.PartPlaces.{same_pos}
-use Rattle.rename_rules.specs.Tokens.{holds_member}
+use Rattle.offences.specs.Tokens.{holds_member}
 use Rattle.edited_unit_laws.specs.Lines.{Each}
 use Rattle.unit_laws.proofs.NameLemmas.{kind_words, only_one}
 use Rattle.rename_meaning.specs.Allowed.{IsAllowed}
 use Rattle.rename_meaning.specs.KeptFiles.{WordIsFree}
 use Rattle.rename_meaning.specs.NamedClasses.{WordsAreFreeWhereNamed}
-use Rattle.rename_meaning.proofs.ListLemmas.{In, AllOf, all_of, in_flat}
+use Rattle.edited_unit_laws.proofs.ListLemmas.{In, AllOf, all_of, in_flat}
 use Rattle.rename_meaning.proofs.DirectiveLemmas.{word_of, word_not_taken, word_listed, word_first, taken_listed}
 use Rattle.rename_meaning.proofs.KeptLemmas.{named_parted, token_held, once}
-use Rattle.rename_meaning.proofs.FileLemmas.{token_stands}
+use Rattle.edited_unit_laws.proofs.FileLemmas.{token_stands}
 use Rattle.rename_meaning.proofs.SpellLemmas.{is_from, origin_in}
 use Rattle.rename_meaning.proofs.LinkLemmas.{Both, links_have}
-use Rattle.rename_meaning.proofs.MemberLemmas.{file_token, span_is, over_in}
+use Rattle.rename_meaning.proofs.MemberLemmas.{over_in}
+use Rattle.edited_unit_laws.proofs.TableTokenLemmas.{file_token, span_is}
 use Rattle.rename_meaning.proofs.NoneLemmas.{none_stand, no_line}
-use Rattle.rename_meaning.proofs.TracedLemmas.{source_of_kept, spelled_fits}
-use Rattle.rename_meaning.proofs.UnitsLemmas.{IsUnit, unit_is, unit_spelled, number_origin, unit_whole_by}
+use Rattle.edited_unit_laws.proofs.TracedLemmas.{source_of_kept, spelled_fits}
+use Rattle.edited_unit_laws.proofs.AnalysedUnitLemmas.{IsUnit, unit_is, unit_spelled, number_origin, unit_whole_by}
 use Rattle.rename_meaning.proofs.ApartLemmas.{any_member, held_parted}
 
 -- ---- what units take

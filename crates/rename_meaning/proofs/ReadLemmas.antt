@@ -20,7 +20,7 @@ use Rattle.rename_meaning.specs.Allowed.{IsAllowed}
 use Rattle.rename_meaning.specs.KeptTokens.{Spells}
 use Rattle.rename_meaning.specs.Renamings.{KeepsUnedited}
 use Rattle.rename_meaning.proofs.KeptTokenLemmas.{each_of}
-use Rattle.rename_meaning.proofs.ListLemmas.{In}
+use Rattle.edited_unit_laws.proofs.ListLemmas.{In}
 use Rattle.rename_meaning.proofs.RenamingLemmas.{renamings_spell}
 use Rattle.rename_meaning.proofs.UneditedLemmas.{renamings_keep_unedited}
 use Rattle.rename_meaning.proofs.BoundUnitLemmas.{names_bind_as_before, units_are_renamed_whole}

@@ -14,8 +14,8 @@ use Rattle.c99_grammar.specs.Standard.{iso}
 use Rattle.scope_bind.specs.Bound.{binding_of}
 use Rattle.analysis.specs.Analysis.{UnitAnalysis, UnitsValue, AnalysisValue, analysis_and, with_unit, unit_read, analysed_from, analysis_of, read_unit, bound_unit, unit_analysis}
 use Rattle.analysis.specs.Texts.{UnitFault, unit_fault, unit_with}
-use Rattle.rename_meaning.proofs.ListLemmas.{In}
-use Rattle.rename_meaning.proofs.UnitsLemmas.{ok_same, done_first, unmapped}
+use Rattle.edited_unit_laws.proofs.ListLemmas.{In}
+use Rattle.edited_unit_laws.proofs.AnalysedUnitLemmas.{ok_same, done_first, unmapped}
 
 -- The tokens of a unit are read to its tree (Annex A), and bound so (6.2).
 pub record IsReadSo (u : UnitAnalysis) : Type 0 where

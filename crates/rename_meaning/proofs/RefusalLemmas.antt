@@ -20,11 +20,12 @@ use Rattle.source_files.specs.KeptFiles.{KeptValue, kept_at}
 use Rattle.source_files.specs.Tables.{paths_in, HasEachOnce}
 use Rattle.analysis.specs.Analysis.{AnalysisValue, analysis_of}
 use Rattle.analysis.specs.Places.{place_at, place_in_file, place_in_lines}
-use Rattle.rename_rules.specs.declared.offences.Offence.{Offence}
-use Rattle.rename_rules.specs.First.{offence_cmp, path_of, position_cmp, offences_of, IsFirst}
+use Rattle.offences.specs.declared.firsts.Offence.{Offence}
+use Rattle.offences.specs.First.{offence_cmp, path_of, position_cmp, IsFirst}
+use Rattle.rename_rules.specs.Offences.{offences_of}
 use Rattle.rename_rules.specs.Renaming.{refused}
 use Rattle.cs_base.proofs.CauseLemmas.{one_cause}
-use Rattle.rename_meaning.proofs.UnitsLemmas.{no_lines, lines_first}
+use Rattle.edited_unit_laws.proofs.AnalysedUnitLemmas.{no_lines, lines_first}
 use Rattle.analysis.proofs.OnceLemmas.{paths_once}
 use Rattle.rename_meaning.specs.Plans.{RefusalsAreOne}
 use Rattle.rename_meaning.proofs.MemberOrderLemmas.{one_place, tied}

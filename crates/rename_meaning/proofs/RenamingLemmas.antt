@@ -20,8 +20,8 @@ use Rattle.analysis.proofs.PlaceNameLemmas.{kept_number}
 use Rattle.analysis.proofs.TokenPlaceLemmas.{token_placed}
 use Rattle.lexer.proofs.FitLemmas.{respell-append}
 use Rattle.rename_meaning.specs.Renamings.{renaming, RenamingsSpell, EditedFilesAreRenamed}
-use Rattle.rename_meaning.proofs.ListLemmas.{In}
-use Rattle.rename_meaning.proofs.FileLemmas.{StandsIn, token_stands}
+use Rattle.edited_unit_laws.proofs.ListLemmas.{In}
+use Rattle.edited_unit_laws.proofs.FileLemmas.{StandsIn, token_stands}
 use Rattle.rename_meaning.proofs.KeptLemmas.{files_keep_pieces}
 use Rattle.renamed.specs.Renamed.{moved_to, spell_from, moved_in, move_to, origins_for, trace_from}
 

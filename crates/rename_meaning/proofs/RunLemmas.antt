@@ -16,7 +16,7 @@ use Rattle.analysis.specs.Analysis.{AnalysisValue}
 use Rattle.rename_rules.specs.Offences.{large_place}
 use Rattle.rename_rules.specs.Runs.{runs, is_in, is_edited, new_size, size_of}
 use Rattle.rename_rules.proofs.RunLemmas.{runs-split}
-use Rattle.rename_meaning.proofs.ListLemmas.{nil_left, nil_right, cons_nil}
+use Rattle.edited_unit_laws.proofs.ListLemmas.{nil_left, nil_right, cons_nil}
 use Rattle.rename_meaning.proofs.MemberOrderLemmas.{NoneIn, StandTogether}
 
 -- ---- texts with the same for each character

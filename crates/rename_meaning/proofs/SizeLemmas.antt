@@ -20,7 +20,7 @@ use Rattle.analysis.specs.Below.eclass_map.Chain.{here}
 use Rattle.rename_rules.specs.Offences.{large_place, full_place, too_large_places}
 use Rattle.rename_rules.specs.Runs.{runs, is_edited, new_size, new_sizes, size_of, kept_size, kept_sizes, new_size_of_all}
 use Rattle.rename_meaning.specs.Allowed.{IsAllowed}
-use Rattle.rename_meaning.proofs.ListLemmas.{In, any_at, nil_left, nil_right}
+use Rattle.edited_unit_laws.proofs.ListLemmas.{In, any_at, nil_left, nil_right}
 use Rattle.rename_meaning.proofs.NoneLemmas.{NoneStand, none_stand, writable}
 use Rattle.rename_meaning.specs.Limits.{EditedFilesAreWithinLimits}
 use Rattle.rename_meaning.proofs.FoundLemmas.{AreReal, IsReal, analysis_real}

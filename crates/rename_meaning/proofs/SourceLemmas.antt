@@ -9,14 +9,14 @@ use Rattle.source_files.specs.Files.{Source, Entry, Table}
 use Rattle.source_files.specs.KeptFiles.{KeptValue, kept, kept_bytes, kept_in, kept_at}
 use Rattle.source_files.specs.Tables.{paths_in, HasEachOnce}
 use Rattle.part_respell.specs.Respelled.{respelled}
-use Rattle.rename_rules.specs.First.{IsAmong}
+use Rattle.offences.specs.First.{IsAmong}
 use Rattle.rename_rules.specs.Runs.{runs, file_of, is_edited}
 use Rattle.rename_rules.proofs.RunLemmas.{runs-none}
 use Rattle.analysis.specs.Analysed.{Analysed}
 use Rattle.rename_meaning.specs.Allowed.{IsAllowed}
 use Rattle.rename_meaning.proofs.CharacterLemmas.{character_file}
 use Rattle.rename_meaning.proofs.DirectiveLemmas.{in_drop}
-use Rattle.rename_meaning.proofs.ListLemmas.{In, any_at}
+use Rattle.edited_unit_laws.proofs.ListLemmas.{In, any_at}
 use Rattle.rename_meaning.proofs.NoneLemmas.{none_stand, no_line}
 use Rattle.rename_meaning.proofs.KeptFileLemmas.{respelled_same}
 use Rattle.rename_meaning.proofs.MemberOrderLemmas.{StandTogether, one_place, members_together}

@@ -13,7 +13,7 @@ use Rattle.edited_unit_laws.specs.Analyses.{renamed_analysis}
 use Rattle.renamed.specs.Renamed.{denote_one}
 use Rattle.analysis.proofs.ClassLemmas.{part_held}
 use Rattle.rename_meaning.specs.Allowed.{IsAllowed}
-use Rattle.rename_meaning.proofs.UnitsLemmas.{ok_same}
+use Rattle.edited_unit_laws.proofs.AnalysedUnitLemmas.{ok_same}
 use Rattle.rename_meaning.specs.KeptUnits.{change}
 use Rattle.rename_meaning.proofs.DenotingLemmas.{renamed_names_denote_alike}
 use Rattle.rename_meaning.proofs.KeptUnitLemmas.{texts_are_renamed_where_named}

@@ -17,7 +17,7 @@ use Rattle.rename_meaning.proofs.KeptLemmas.{nothing}
 use Rattle.rename_meaning.proofs.MemberLemmas.{over_in}
 use Rattle.rename_meaning.proofs.NoneLemmas.{none_stand, no_line}
 use Rattle.rename_meaning.proofs.PutLemmas.{put-stays}
-use Rattle.rename_meaning.proofs.UnitsLemmas.{no_lines}
+use Rattle.edited_unit_laws.proofs.AnalysedUnitLemmas.{no_lines}
 use Rattle.renamed.specs.Renamed.{spell_from, moved_in, move_to, origins_for, trace_from}
 
 spell_untraced : (members : List Part) (name : List ℕ) (os : List (Option Pos)) (text : List ℕ) → list_all is_none os ≡ true → spell_from members name os text ≡ text

@@ -43,10 +43,10 @@ use Rattle.rename_meaning.specs.Occurring.{occurring_in}
 use Rattle.rename_meaning.specs.Renamings.{KeepsUnedited}
 use Rattle.rename_meaning.proofs.ApartLemmas.{parted_of, file_told, pasted_parted}
 use Rattle.rename_meaning.proofs.KeptTokenLemmas.{other_same}
-use Rattle.rename_meaning.proofs.ListLemmas.{In}
+use Rattle.edited_unit_laws.proofs.ListLemmas.{In}
 use Rattle.rename_meaning.proofs.OccurringLemmas.{file_tokens_occur, pasted_tokens_occur}
-use Rattle.rename_meaning.proofs.TracedLemmas.{source_of_kept, digits_length}
-use Rattle.rename_meaning.proofs.UnitsLemmas.{IsUnit, unit_is}
+use Rattle.edited_unit_laws.proofs.TracedLemmas.{source_of_kept, digits_length}
+use Rattle.edited_unit_laws.proofs.AnalysedUnitLemmas.{IsUnit, unit_is}
 
 -- A string that begins with a quote, before and anew.
 pub record IsQuoted (r : Renaming) (t : Token) : Type 0 where

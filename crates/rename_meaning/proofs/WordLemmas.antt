@@ -10,7 +10,7 @@ use Rattle.lexer.specs.Respelling.{Put, respell, stays, names_stand, keeps_inclu
 use Rattle.lexer.specs.KeptTokens.{keeps_spelled, front_before, keeps_tokens}
 use Rattle.line_shape.specs.Signs.{is_identifier, is_hash}
 use Rattle.line_shape.specs.Items.{onto_lines, lines_of}
-use Rattle.rename_meaning.proofs.ListLemmas.{AllOf}
+use Rattle.edited_unit_laws.proofs.ListLemmas.{AllOf}
 
 -- what is true of the word of a directive line
 abbrev pub WordIs : (Token → Type 0) → List Token → Type 0

@@ -7,8 +7,9 @@ use Rattle.source_files.specs.Files.{Source}
 use Rattle.analysis.specs.Analysed.{Analysed}
 use Rattle.analysis.specs.Analysis.{analysis_of}
 use Rattle.analysis.specs.Classes.{AreItsClasses}
-use Rattle.rename_rules.specs.Class.{IsClass}
-use Rattle.rename_rules.specs.First.{IsFirst, offences_of}
+use Rattle.offences.specs.Class.{IsClass}
+use Rattle.offences.specs.First.{IsFirst}
+use Rattle.rename_rules.specs.Offences.{offences_of}
 
 -- The members of a class of an analysis, and an identifier that they may be spelled as: no offence stands against it, if
 -- strings that `#` makes may follow it.

@@ -4,7 +4,7 @@ use Rattle.cs_base.specs.declared.positions.Part.{Part}
 use Rattle.source_files.specs.Files.{Source}
 use Rattle.source_files.specs.KeptFiles.{KeptValue}
 use Rattle.source_files.specs.Tables.{HasEachOnce}
-use Rattle.rename_rules.specs.First.{IsAmong}
+use Rattle.offences.specs.First.{IsAmong}
 use Rattle.rename_rules.specs.Runs.{runs, file_of, new_bytes}
 use Rattle.edited_unit_laws.specs.EditedFiles.{HoldsEdited}
 use Rattle.analysis.specs.Analysed.{Analysed}

@@ -8,7 +8,7 @@ use Rattle.line_shape.specs.Items.{lines_of}
 use Rattle.line_shape.specs.Signs.{is_hash}
 use Rattle.source_files.specs.KeptFiles.{KeptValue, kept_at}
 use Rattle.part_respell.specs.Respelled.{put_of}
-use Rattle.rename_rules.specs.Tokens.{holds_member}
+use Rattle.offences.specs.Tokens.{holds_member}
 use Rattle.edited_unit_laws.specs.Lines.{Each}
 use Rattle.analysis.specs.Analysed.{Analysed}
 use Rattle.analysis.specs.Analysis.{AnalysisValue}

@@ -10,7 +10,8 @@ use Rattle.cs_base.specs.Reserved.{is_reserved_text}
 use Rattle.cs_base.specs.Token.{Token}
 use Rattle.line_shape.specs.Signs.{is_identifier, is_punctuator, is_name}
 use Rattle.unit_steps.specs.Below.macro_expand.Renaming.{Renaming, Occurring, spelled, occurs}
-use Rattle.rename_rules.specs.Tokens.{kept_tokens, pasted_tokens}
+use Rattle.rename_rules.specs.Tokens.{pasted_tokens}
+use Rattle.offences.specs.Tokens.{kept_tokens}
 use Rattle.analysis.specs.Analysed.{Analysed}
 use Rattle.analysis.specs.Analysis.{AnalysisValue}
 use Rattle.rename_meaning.specs.Allowed.{IsAllowed}

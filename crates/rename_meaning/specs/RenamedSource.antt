@@ -7,7 +7,8 @@ use Rattle.lexer.specs.Spelling.{is_identifier_text}
 use Rattle.ws_file.specs.Workspace.{WorkspaceValue, IsWorkspace}
 use Rattle.source_files.specs.Files.{Source}
 use Rattle.source_files.specs.Tables.{HasEachOnce}
-use Rattle.rename_rules.specs.First.{IsFirst, offences_of}
+use Rattle.offences.specs.First.{IsFirst}
+use Rattle.rename_rules.specs.Offences.{offences_of}
 use Rattle.analysis.specs.Analysis.{AnalysisValue, analysis_of}
 use Rattle.analysis.specs.Classes.{AreItsClasses}
 use Rattle.analysis.specs.Naming.{Names}

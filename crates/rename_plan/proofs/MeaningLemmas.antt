@@ -5,7 +5,8 @@ use Rattle.cs_base.specs.Edit.{Edit}
 use Rattle.analysis.specs.Analysed.{Analysed}
 use Rattle.ws_file.specs.Workspace.{IsWorkspace}
 use Rattle.analysis.specs.Classes.{AreItsClasses}
-use Rattle.rename_rules.specs.Renaming.{GivesOne, IsRenaming}
+use Rattle.rename_rules.specs.Renaming.{IsRenaming}
+use Rattle.offences.specs.Answers.{GivesOne}
 use Rattle.rename_meaning.specs.Plans.{RenamesOver}
 use Rattle.rename_meaning.proofs.PlanLemmas.{plans_keep_meaning}
 use Rattle.rename_plan.specs.Refusals.{refusal_of}

@@ -6,7 +6,8 @@ use Rattle.cs_base.specs.Edit.{Edit}
 use Rattle.lexer.specs.Spelling.{is_identifier_text}
 use Rattle.analysis.specs.Analysis.{AnalysisValue}
 use Rattle.analysis.specs.Naming.{Names}
-use Rattle.rename_rules.specs.Renaming.{GivesOne, IsNamedRenamed, IsRenaming, Refusal}
+use Rattle.rename_rules.specs.Renaming.{IsNamedRenamed, IsRenaming, Refusal}
+use Rattle.offences.specs.Answers.{GivesOne}
 
 if_some : {F : Type 0} (o : Option F) (P Q : F → Type 0) → ((x : F) → P x → Q x) → IfSome o P → IfSome o Q
 if_some None P Q f h = tt

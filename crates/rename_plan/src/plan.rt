@@ -1,11 +1,13 @@
 // The edits of a renaming, or its first refusal.
 ghost use Rattle.std.specs.Prelude.{◌≡◌, None, IfOk};
 ghost use Rattle.rename_meaning.specs.Plans.{RenamesOver};
-ghost use Rattle.rename_rules.specs.Class.{IsClass};
+ghost use Rattle.offences.specs.Class.{IsClass};
 ghost use Rattle.cs_base.specs.declared.causes.Cause.TheVariants.{Stringized as stringized_cause};
-ghost use Rattle.rename_rules.specs.First.{member_offences, offences_of, spelling_offences, standing, FirstThen, IsFirst};
+ghost use Rattle.offences.specs.First.{standing, FirstThen, IsFirst};
+ghost use Rattle.rename_rules.specs.Offences.{member_offences, offences_of, spelling_offences};
 ghost use Rattle.rename_rules.specs.Offences.{kept_string_places};
-ghost use Rattle.rename_rules.specs.Renaming.{GivesOne, IsClassRenamed, IsRenamed, IsRenaming};
+ghost use Rattle.rename_rules.specs.Renaming.{IsClassRenamed, IsRenamed, IsRenaming};
+ghost use Rattle.offences.specs.Answers.{GivesOne};
 ghost use Rattle.rename_rules.specs.Runs.{edits_of};
 ghost use Rattle.analysis.specs.Parts.{IsPart};
 ghost use Rattle.rename_plan.specs.Refusals.{refusal_of};
@@ -15,9 +17,10 @@ use crate::refusals::{RenameRefusal, refused};
 use analysis::Analysis;
 use cs_base::{Edits, Memory, Part};
 use lexer::is_identifier;
+use offences::Offence;
 use rename_rules::{
-    Offence, Renaming, clashing, header_names, no_identifiers, occurring, read_only, reserved,
-    shadowed, stringized, too_large,
+    Renaming, clashing, header_names, no_identifiers, occurring, read_only, reserved, shadowed,
+    stringized, too_large,
 };
 use std::alloc::Global;
 

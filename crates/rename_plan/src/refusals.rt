@@ -6,7 +6,7 @@ ghost use Rattle.analysis.specs.Places.{place_at};
 
 use analysis::Analysis;
 use cs_base::{Cause, Memory as NoMemory, Place, Pos, Text};
-use rename_rules::Offence;
+use offences::Offence;
 use std::alloc::Global;
 
 /// What `plan_rename` answers where it gives no edits, in the order in which it looks.

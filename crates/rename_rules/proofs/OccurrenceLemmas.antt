@@ -12,12 +12,13 @@ use Rattle.cs_base.specs.Token.{Token}
 use Rattle.analysis.specs.Below.c_types.declared.lists.Range.{Range}
 use Rattle.analysis.specs.Analysis.{AnalysisValue, UnitAnalysis}
 use Rattle.analysis.specs.BroughtNumbers.{all_brought}
-use Rattle.rename_rules.specs.declared.offences.Offence.{Offence}
-use Rattle.rename_rules.specs.First.{offence, standing, FirstThen}
+use Rattle.offences.specs.declared.firsts.Offence.{Offence}
+use Rattle.offences.specs.First.{offence, standing, FirstThen}
 use Rattle.rename_rules.specs.Offences.{bare_place, bare_places, hides_typedef, occurring_place, occurring_places}
 use Rattle.rename_rules.specs.Respellings.{RespellingValue, AreRespellings, bare_place_by, bare_places_by, is_new, is_old}
-use Rattle.rename_rules.specs.Tokens.{all_file_tokens, first_place, holders, is_new_spelling, is_old_spelling, kept_tokens, pasted_tokens}
-use Rattle.rename_rules.proofs.FirstLemmas.{then_both}
+use Rattle.rename_rules.specs.Tokens.{all_file_tokens, holders, is_new_spelling, is_old_spelling, pasted_tokens}
+use Rattle.offences.specs.Tokens.{first_place, kept_tokens}
+use Rattle.offences.proofs.FirstLemmas.{then_both}
 
 pub new_told : (members : List Part) (name : List ℕ) (toks : List Token) (t : Token) (table : List RespellingValue) (text : List ℕ) (b : Bool)
     → AreRespellings members name toks table → text ≡ t.text → b ≡ list_any (is_new text) table → is_new_spelling members name toks t.text ≡ b

@@ -13,11 +13,11 @@ use Rattle.analysis.specs.Below.source_files.Files.{Table, Entry, Absent, entry}
 use Rattle.analysis.specs.Below.source_files.KeptFiles.{kept_at}
 use Rattle.part_respell.specs.Order.{AreInOrder}
 use Rattle.analysis.specs.Analysis.{AnalysisValue}
-use Rattle.rename_rules.specs.declared.offences.Offence.{Offence}
-use Rattle.rename_rules.specs.First.{offence, standing, FirstThen}
+use Rattle.offences.specs.declared.firsts.Offence.{Offence}
+use Rattle.offences.specs.First.{offence, standing, FirstThen}
 use Rattle.rename_rules.specs.Offences.{full_place, large_place, too_large_places}
 use Rattle.rename_rules.specs.Runs.{kept_size, kept_sizes, is_in, most_size, new_size, new_size_of_all, new_sizes, run_length, runs, AreApart}
-use Rattle.rename_rules.proofs.FirstLemmas.{then_both, then_none}
+use Rattle.offences.proofs.FirstLemmas.{then_both, then_none}
 use Rattle.rename_rules.proofs.RunLemmas.{run_order, runs-split, runs-none}
 
 kept_sizes-more : (members : List Part) (table : Table) (k : ℕ) → k < length table

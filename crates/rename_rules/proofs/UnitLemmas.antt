@@ -1,13 +1,10 @@
 -- Units, files and tokens, one after another.
-use Rattle.std.proofs.Common.{◌≡◌, true, false, inl, inr, ℕ, zero, suc, ◌+◌, ◌-◌, ◌<◌, ◌≤◌, Bool, List, [], ◌∷◌, ◌++◌, length, take, drop, get_or, Option, Some, None, slice_get, refl, sym, ap, ◌∙◌, append_assoc, append-nil, arith}
-use Rattle.std.specs.Prelude.{◌||◌, filter, is_some}
-use Rattle.std.specs.List.{flat_map, list_any}
+use Rattle.std.proofs.Common.{◌≡◌, ℕ, ◌+◌, ◌-◌, ◌<◌, ◌≤◌, Bool, List, [], ◌∷◌, ◌++◌, length, take, drop, get_or, Option, Some, None, slice_get, refl, sym, ap, ◌∙◌, append_assoc, append-nil, arith}
+use Rattle.std.specs.Prelude.{filter}
+use Rattle.std.specs.List.{flat_map}
 use Rattle.std.specs.Option.{option_map_or}
-use Rattle.std.proofs.Math.Bool.{or-false}
-use Rattle.std.proofs.lemmas.Bool.{cases_Bool}
-use Rattle.std.proofs.lemmas.List.Folds.{list_any-append}
 use Rattle.std.proofs.lemmas.Grind.{flat_map-append}
-use Rattle.std.proofs.lemmas.List.{at_drop_more, at_drop_all, map-append, take_more, take_all}
+use Rattle.std.proofs.lemmas.List.{at_drop_more, at_drop_all, map-append, take_more}
 use Rattle.std.proofs.lemmas.List.Elements.{filter-append}
 use Rattle.std.proofs.lemmas.Option.{slice_get_within, slice_get-get_or, get_or_from_slice_get}
 use Rattle.cs_base.specs.declared.causes.Cause.{Cause}
@@ -19,10 +16,11 @@ use Rattle.analysis.specs.Below.source_files.KeptFiles.{kept_at}
 use Rattle.analysis.specs.Analysis.{AnalysisValue, UnitAnalysis}
 use Rattle.analysis.specs.BroughtNumbers.{all_brought}
 use Rattle.analysis.specs.FileTokens.{file_tokens, kept_tokens as parted_tokens, numbers_brought, table_tokens}
-use Rattle.rename_rules.specs.declared.offences.Offence.{Offence}
-use Rattle.rename_rules.specs.First.{offence, standing, FirstThen}
-use Rattle.rename_rules.specs.Tokens.{file_toks, holders, holds_member, kept_tokens, member_of, pasted_tokens}
-use Rattle.rename_rules.proofs.FirstLemmas.{then_none, then_both, then_next}
+use Rattle.offences.specs.declared.firsts.Offence.{Offence}
+use Rattle.offences.specs.First.{offence, standing, FirstThen}
+use Rattle.rename_rules.specs.Tokens.{holders, pasted_tokens}
+use Rattle.offences.specs.Tokens.{file_toks, holds_member, kept_tokens}
+use Rattle.offences.proofs.FirstLemmas.{then_none, then_both, then_next}
 
 -- ---- units
 
@@ -131,46 +129,6 @@ origin_next table cause f t k a b c within before here =
     let at : slice_get t.origins k ≡ Some x = slice_get-get_or t.origins k None within in
     let here' : FirstThen table (standing cause (f x)) b c = rw at at here in
     then_next table cause f t.origins k x a b c within (sym (get_or_from_slice_get t.origins k x x at)) before here'
-
-module _ (members : List Part) (t : Token) where
-  abbrev is_from : Option Pos → Bool
-  is_from origin = is_some (member_of members origin)
-
-  origin_is : (k : ℕ) → k < length t.origins → origin_at t k ≡ get_or t.origins k None
-  origin_is k within = rw (slice_get-get_or t.origins k None within) refl
-
-  take_next : (k : ℕ) → k < length t.origins → list_any is_from (take (k + 1) t.origins) ≡ (list_any is_from (take k t.origins) || is_from (origin_at t k))
-  take_next k within =
-      ap (list_any is_from) (take_more t.origins k None within)
-      ∙ list_any-append is_from (take k t.origins) (get_or t.origins k None ∷ [])
-      ∙ ap (λ (b : Bool). list_any is_from (take k t.origins) || b) (or-false (is_from (get_or t.origins k None)) ∙ ap is_from (sym (origin_is k within)))
-
-  any_front : {X : Type 0} (p : X → Bool) (xs : List X) (k : ℕ) → list_any p (take k xs) ≡ true → list_any p xs ≡ true
-  any_front p xs zero h = absurd (cc)
-  any_front p [] (suc k) h = h
-  any_front p (x ∷ xs) (suc k) h =
-      elim (cases_Bool (p x)) [
-        | inl passes ↦ rw passes refl
-        | inr fails ↦ rw fails (any_front p xs k (rw fails at h))
-      ]
-
-  or_last : (b c : Bool) → c ≡ true → (b || c) ≡ true
-  or_last true c e = refl
-  or_last false c e = e
-
-  or_neither : (b c : Bool) → b ≡ false → c ≡ false → (b || c) ≡ false
-  or_neither b c e f = rw (e, f) refl
-
-  pub origin_any : (k : ℕ) → k < length t.origins → is_from (origin_at t k) ≡ true → holds_member members t ≡ true
-  origin_any k within h =
-      any_front is_from t.origins (k + 1) (take_next k within ∙ or_last (list_any is_from (take k t.origins)) (is_from (origin_at t k)) h)
-
-  pub origin_none : (k : ℕ) → k < length t.origins → list_any is_from (take k t.origins) ≡ false → is_from (origin_at t k) ≡ false
-      → list_any is_from (take (k + 1) t.origins) ≡ false
-  origin_none k within before here = take_next k within ∙ or_neither (list_any is_from (take k t.origins)) (is_from (origin_at t k)) before here
-
-  pub origins_none : (k : ℕ) → length t.origins ≤ k → list_any is_from (take k t.origins) ≡ false → holds_member members t ≡ false
-  origins_none k past before = rw (← take_all k t.origins past) before
 
 -- ---- all tokens that hold members
 

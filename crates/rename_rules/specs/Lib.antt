@@ -2,9 +2,7 @@
 pub mod Tokens
 pub mod Runs
 pub mod Offences
-pub mod First
 pub mod Renaming
 -- What inner functions promise each other.
-pub mod Class
 pub mod Respellings
 pub mod RenamingValue

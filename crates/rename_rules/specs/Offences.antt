@@ -16,7 +16,11 @@ use Rattle.part_respell.specs.Respelled.{spelled}
 use Rattle.analysis.specs.Analysis.{UnitAnalysis, AnalysisValue}
 use Rattle.analysis.specs.Places.{is_read_only}
 use Rattle.rename_rules.specs.Runs.{runs, is_too_large, new_size_of_all}
-use Rattle.rename_rules.specs.Tokens.{all_file_tokens, pasted_tokens, holders, starts_in, first_place, is_new_spelling, is_old_spelling, clashes}
+use Rattle.rename_rules.specs.Tokens.{all_file_tokens, pasted_tokens, holders, starts_in, is_new_spelling, is_old_spelling, clashes}
+use Rattle.offences.specs.Tokens.{first_place}
+use Rattle.cs_base.specs.declared.causes.Cause.TheVariants as cause
+use Rattle.offences.specs.declared.firsts.Offence.{Offence}
+use Rattle.offences.specs.First.{standing}
 
 -- ReadOnly: a member in a read-only file or a pseudo file
 abbrev pub read_only_place : AnalysisValue → Part → List Pos
@@ -104,3 +108,26 @@ bare_places a members u k = option_map_or (bare_place a members u k) (slice_get 
 -- its spelling, where this spelling is the old one of a token that holds a member
 unfoldable pub shadowed_places : AnalysisValue → List Part → List Pos
 shadowed_places a members = flat_map (λ (u : UnitAnalysis). flat_map (bare_places a members u) u.bound.bare) a.units
+
+-- ---- all of them
+
+-- Those at members and the tokens that hold them. `strings` says that strings which `#` makes may follow the renaming.
+unfoldable pub member_offences : AnalysisValue → List Part → List ℕ → Bool → List Offence
+member_offences a members name strings =
+    standing cause.ReadOnly (read_only_places a members)
+    ++ standing cause.Reserved (reserved_places a members name)
+    ++ standing cause.Stringized (kept_string_places a members strings)
+    ++ standing cause.HeaderName (header_places a members)
+    ++ standing cause.NotIdentifier (no_identifier_places a members)
+
+-- those of new spellings among all others
+unfoldable pub spelling_offences : AnalysisValue → List Part → List ℕ → List Offence
+spelling_offences a members name =
+    standing cause.Occurs (occurring_places a members name)
+    ++ standing cause.Clash (clashing_places a members name)
+    ++ standing cause.TooLarge (too_large_places a members name)
+    ++ standing cause.ShadowedTypedef (shadowed_places a members)
+
+-- all offences against a renaming, in no order
+abbrev pub offences_of : AnalysisValue → List Part → List ℕ → Bool → List Offence
+offences_of a members name strings = member_offences a members name strings ++ spelling_offences a members name

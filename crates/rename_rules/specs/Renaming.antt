@@ -1,5 +1,5 @@
 -- The renaming of the class that a place names (this project's): the edits of the files, or why it is refused.
-use Rattle.std.specs.Prelude.{ℕ, ◌≡◌, Bool, true, false, Option, Some, None, List, Result, Ok, Err, IfSome}
+use Rattle.std.specs.Prelude.{ℕ, ◌≡◌, Bool, true, false, Option, Some, None, List, Result, Ok, Err}
 use Rattle.cs_base.specs.declared.causes.Cause.{Cause}
 use Rattle.cs_base.specs.declared.positions.Part.{Part}
 use Rattle.cs_base.specs.declared.positions.Place.{Place}
@@ -9,8 +9,9 @@ use Rattle.analysis.specs.Analysis.{AnalysisValue}
 use Rattle.analysis.specs.Naming.{Names}
 use Rattle.analysis.specs.Parts.{AreMembers}
 use Rattle.analysis.specs.Places.{place_at}
-use Rattle.rename_rules.specs.declared.offences.Offence.{Offence}
-use Rattle.rename_rules.specs.First.{IsFirst, offences_of}
+use Rattle.offences.specs.declared.firsts.Offence.{Offence}
+use Rattle.offences.specs.First.{IsFirst}
+use Rattle.rename_rules.specs.Offences.{offences_of}
 use Rattle.rename_rules.specs.Runs.{edits_of}
 
 -- ---- refusals
@@ -47,9 +48,3 @@ IsNamedRenamed a name strings answer (Some part) = IsClassRenamed a part name st
 pub record IsRenaming (a : AnalysisValue) (path : List ℕ) (line column : ℕ) (name : List ℕ) (strings : Bool) (answer : Result (List Edit) Refusal) : Type 0 where
   pub bad_name : is_identifier_text name ≡ false → answer ≡ Err bad_name
   pub named : is_identifier_text name ≡ true → (named : Option Part) × Names a path line column named × IsNamedRenamed a name strings answer named
-
--- The call returned an answer that is allowed, its value or its refusal, unless memory ran out: `fault_of` is none for
--- want of memory alone.
-abbrev pub GivesOne : {X Y E F : Type 0} → (X → Y) → (E → Option F) → Result X E → (Result Y F → Type 0) → Type 0
-GivesOne view fault_of (Ok x) IsAnswer = IsAnswer (Ok (view x))
-GivesOne view fault_of (Err e) IsAnswer = IfSome (fault_of e) (λ fault. IsAnswer (Err fault))

@@ -1,7 +1,7 @@
 -- A new name for a class over an analysis, as contracts see it.
 use Rattle.std.specs.Prelude.{ℕ, ◌≡◌, List}
 use Rattle.cs_base.specs.Token.{Token}
-use Rattle.rename_rules.specs.Class.{ClassValue}
+use Rattle.offences.specs.Class.{ClassValue}
 use Rattle.rename_rules.specs.Respellings.{RespellingValue, AreRespellings}
 use Rattle.rename_rules.specs.Tokens.{holders}
 

@@ -9,7 +9,7 @@ use Rattle.cs_base.specs.Token.{Token}
 use Rattle.analysis.specs.Below.c_types.declared.lists.Range.{Range}
 use Rattle.part_respell.specs.Respelled.{spelled}
 use Rattle.rename_rules.specs.Offences.{is_shadow}
-use Rattle.rename_rules.specs.Tokens.{first_place}
+use Rattle.offences.specs.Tokens.{first_place}
 
 -- The old and the new spelling of a token.
 pub record RespellingValue : Type 0 where

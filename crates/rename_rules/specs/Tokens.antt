@@ -1,32 +1,17 @@
 -- Tokens that hold members of a class (this project's): what a renaming spells otherwise.
-use Rattle.std.specs.Prelude.{ℕ, ◌+◌, ◌&&◌, not, Bool, is_some, Option, List, [], ◌∷◌, ◌++◌, filter}
+use Rattle.std.specs.Prelude.{ℕ, ◌+◌, ◌&&◌, not, Bool, Option, List, [], ◌∷◌, ◌++◌, filter}
 use Rattle.std.specs.List.{flat_map, list_any}
-use Rattle.std.specs.Option.{option_map_or, option_and_then}
+use Rattle.std.specs.Option.{option_map_or}
 use Rattle.std.specs.Str.{bytes_eq}
 use Rattle.cs_base.specs.declared.positions.Part.{Part}
 use Rattle.cs_base.specs.declared.positions.Pos.{Pos}
-use Rattle.cs_base.specs.Token.{Token, origin_at}
-use Rattle.analysis.specs.Below.lexer.Tokens.{tokens_of}
-use Rattle.analysis.specs.Below.source_files.Files.{Entry, Table}
-use Rattle.analysis.specs.Below.source_files.KeptFiles.{KeptValue, kept_in}
-use Rattle.part_respell.specs.Respelled.{member_over, spelled}
+use Rattle.cs_base.specs.Token.{Token}
+use Rattle.part_respell.specs.Respelled.{spelled}
 use Rattle.analysis.specs.Analysis.{UnitAnalysis, AnalysisValue}
 use Rattle.analysis.specs.FileTokens.{file_tokens, numbers_brought}
+use Rattle.offences.specs.Tokens.{kept_tokens, member_of, holds_member}
 
 -- ---- all tokens
-
--- the tokens of a file, of whatever kind
-abbrev pub file_toks : KeptValue → List Token
-file_toks f = tokens_of f.number f.bytes
-
--- those of an entry with this number
-abbrev pub entry_tokens : ℕ → Entry → List Token
-entry_tokens number e = option_map_or file_toks (kept_in number e) []
-
--- those of the entries from this number on
-unfoldable pub kept_tokens : ℕ → Table → List Token
-kept_tokens number [] = []
-kept_tokens number (e ∷ table) = entry_tokens number e ++ kept_tokens (number + 1) table
 
 -- All tokens of the files: of groups that are skipped too, and of pseudo files; a number of `__LINE__` or of an
 -- answer stands in one of them.
@@ -38,14 +23,6 @@ unfoldable pub pasted_tokens : AnalysisValue → List Token
 pasted_tokens a = flat_map (λ (u : UnitAnalysis). u.text.pasted) a.units
 
 -- ---- members in tokens
-
--- the member that a character comes from, if it comes from one
-abbrev pub member_of : List Part → Option Pos → Option Part
-member_of members origin = option_and_then (member_over members) origin
-
--- the token holds a member: some character of it comes from one
-abbrev pub holds_member : List Part → Token → Bool
-holds_member members t = list_any (λ origin. is_some (member_of members origin)) t.origins
 
 -- the first character of the member that a character comes from
 abbrev pub start_of : List Part → Option Pos → List Pos
@@ -74,7 +51,3 @@ is_old_spelling toks text = list_any (λ (t : Token). bytes_eq t.text text) toks
 abbrev pub clashes : List Part → List ℕ → List Token → Token → Bool
 clashes members name toks t =
     list_any (λ u. bytes_eq (spelled members name u) (spelled members name t) && not (bytes_eq u.text t.text)) toks
-
--- where a token begins, if its first character comes from a file
-abbrev pub first_place : Token → List Pos
-first_place t = option_map_or (λ p. p ∷ []) (origin_at t 0) []

@@ -3,16 +3,16 @@ ghost use Rattle.std.specs.Prelude.{◌≡◌};
 ghost use Rattle.std.specs.List.{flat_map, list_any};
 ghost use Rattle.cs_base.specs.declared.causes.Cause.TheVariants as cause;
 ghost use Rattle.analysis.specs.Below.c_types.Declarations.{spelling_at};
-ghost use Rattle.rename_rules.specs.First.{standing, FirstThen};
+ghost use Rattle.offences.specs.First.{standing, FirstThen};
 ghost use Rattle.rename_rules.specs.Offences.{is_shadow, shadowed_places};
 ghost use Rattle.rename_rules.specs.Respellings.{bare_place_by, bare_places_by};
 
 use crate::occurrences::at_first;
-use crate::offences::Offence;
 use crate::renamings::Renaming;
 use crate::respelling_table::{Respelling, is_old_spelling};
 use analysis::{Analysis, Range};
 use cs_base::{Cause, Tok};
+use offences::Offence;
 
 // The spelling of a token.
 fn spelling_at(toks: &[Tok], k: u32) -> &[u8]

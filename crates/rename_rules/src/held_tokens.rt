@@ -4,11 +4,12 @@ ghost use Rattle.std.specs.Option.{option_map_or};
 ghost use Rattle.cs_base.specs.Token.{has_origins};
 ghost use Rattle.analysis.specs.Below.source_files.KeptFiles.{kept_at};
 ghost use Rattle.analysis.specs.FileTokens.{kept_tokens, table_tokens};
-ghost use Rattle.rename_rules.specs.Tokens.{holders, holds_member, pasted_tokens};
+ghost use Rattle.rename_rules.specs.Tokens.{holders, pasted_tokens};
+ghost use Rattle.offences.specs.Tokens.{holds_member};
 
-use crate::classes::{Class, holds_member};
 use analysis::KeptFile;
 use cs_base::{Kind, Memory, Tok};
+use offences::{Class, holds_member};
 use std::alloc::Global;
 
 // Adds a token, if it holds a member.

@@ -3,16 +3,15 @@ ghost use Rattle.std.specs.Prelude.{◌≡◌, ◌≤◌, Some, length, slice_ge
 ghost use Rattle.std.specs.List.{flat_map};
 ghost use Rattle.cs_base.specs.declared.causes.Cause.TheVariants as cause;
 ghost use Rattle.analysis.specs.Below.line_shape.Signs.{is_name};
-ghost use Rattle.rename_rules.specs.First.{standing, FirstThen};
+ghost use Rattle.offences.specs.First.{standing, FirstThen};
 ghost use Rattle.rename_rules.specs.Offences.{read_only_place, read_only_places, stringized_places, header_places, no_identifier_place, no_identifier_places};
 ghost use Rattle.rename_rules.specs.Tokens.{start_of, starts_in};
 ghost use Rattle.cs_base.specs.Token.{origin_at};
 
-use crate::classes::{Class, length, member_at};
-use crate::offences::{Offence, first_with};
 use crate::renamings::Renaming;
 use analysis::Analysis;
 use cs_base::{Cause, Kind, Part, Tok};
+use offences::{Class, Offence, first_with, length, member_at};
 
 // A cause that stands at the member which character `k` of a token comes from.
 fn at_character(

@@ -5,16 +5,17 @@ ghost use Rattle.std.specs.Option.{option_map_or};
 ghost use Rattle.cs_base.specs.declared.causes.Cause.TheVariants as cause;
 ghost use Rattle.analysis.specs.Below.source_files.KeptFiles.{kept_at};
 ghost use Rattle.analysis.specs.Below.lexer.Tokens.{tokens_of};
-ghost use Rattle.rename_rules.specs.First.{standing, FirstThen};
+ghost use Rattle.offences.specs.First.{standing, FirstThen};
 ghost use Rattle.rename_rules.specs.Offences.{occurring_place, occurring_places};
 ghost use Rattle.rename_rules.specs.RenamingValue.{held};
-ghost use Rattle.rename_rules.specs.Tokens.{file_toks, first_place, kept_tokens, pasted_tokens};
+ghost use Rattle.rename_rules.specs.Tokens.{pasted_tokens};
+ghost use Rattle.offences.specs.Tokens.{file_toks, first_place, kept_tokens};
 
-use crate::offences::{Offence, first_with};
 use crate::renamings::Renaming;
 use crate::respelling_table::is_new_spelling;
 use analysis::{Analysis, KeptFile};
 use cs_base::{Cause, Tok};
+use offences::{Offence, first_with};
 
 // A cause that stands where a token begins.
 pub(crate) fn at_first(

@@ -1,14 +1,14 @@
 // A new name for a class over an analysis.
 ghost use Rattle.std.specs.Prelude.{◌≡◌, IfOk};
-ghost use Rattle.rename_rules.specs.Class.{class_over, IsClass};
+ghost use Rattle.offences.specs.Class.{class_over, IsClass};
 ghost use Rattle.rename_rules.specs.RenamingValue.{held, renaming};
 ghost use Rattle.rename_rules.specs.Respellings.{AreRespellings};
 
-use crate::classes::Class;
 use crate::held_tokens::holders;
 use crate::respelling_table::{Respelling, respellings};
 use analysis::Analysis;
 use cs_base::{Memory, Part, Tok};
+use offences::Class;
 use std::alloc::Global;
 use std::marker::Model;
 

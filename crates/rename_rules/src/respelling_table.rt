@@ -4,9 +4,9 @@ ghost use Rattle.std.specs.List.{list_any};
 ghost use Rattle.std.specs.Str.{bytes_eq};
 ghost use Rattle.rename_rules.specs.Respellings.{respelling, respelling_of, Adds, AreRespellings, is_old, is_new, is_clash};
 
-use crate::classes::Class;
 use crate::spelling::spelled;
 use cs_base::{Memory, Tok};
+use offences::Class;
 use std::alloc::Global;
 use std::marker::Model;
 

@@ -6,14 +6,14 @@ ghost use Rattle.cs_base.specs.declared.causes.Cause.TheVariants as cause;
 ghost use Rattle.analysis.specs.Below.source_files.KeptFiles.{kept_at};
 ghost use Rattle.analysis.specs.Below.include_tree.PseudoFiles.{is_pseudo};
 ghost use Rattle.part_respell.specs.Order.{AreInOrder};
-ghost use Rattle.rename_rules.specs.First.{standing, FirstThen};
+ghost use Rattle.offences.specs.First.{standing, FirstThen};
 ghost use Rattle.rename_rules.specs.Offences.{full_place, large_place, too_large_places};
 ghost use Rattle.rename_rules.specs.Runs.{is_edited, is_in, kept_size, kept_sizes, most_size, new_bytes, new_size, new_size_of_all, new_sizes, run_length, runs, size_of, AreApart};
 
-use crate::offences::{Offence, first_with};
 use crate::renamings::Renaming;
 use analysis::{Analysis, KeptFile};
 use cs_base::{Cause, MOST_BYTES, MOST_BYTES_OF_ALL, Memory, Part};
+use offences::{Offence, first_with};
 use part_respell::respell;
 use std::alloc::Global;
 

@@ -4,8 +4,8 @@ ghost use Rattle.std.specs.Option.{option_map_or};
 ghost use Rattle.cs_base.specs.Token.{origin_at};
 ghost use Rattle.part_respell.specs.Respelled.{put_for, put_in, spelled};
 
-use crate::classes::{Class, member_over};
 use cs_base::{Memory, Part, Pos, Tok};
+use offences::{Class, member_over};
 use std::alloc::Global;
 
 // Adds what stands for a character at a position, which lies in this member or in none.

@@ -3,18 +3,17 @@ ghost use Rattle.std.specs.Prelude.{◌≡◌, ◌||◌, IfOk};
 ghost use Rattle.std.specs.List.{flat_map};
 ghost use Rattle.cs_base.specs.Reserved.{is_reserved_text};
 ghost use Rattle.cs_base.specs.declared.causes.Cause.TheVariants as cause;
-ghost use Rattle.rename_rules.specs.First.{standing, FirstThen};
+ghost use Rattle.offences.specs.First.{standing, FirstThen};
 ghost use Rattle.rename_rules.specs.Offences.{reserved_place, reserved_places, clashing_place, clashing_places};
 ghost use Rattle.rename_rules.specs.RenamingValue.{held};
 
-use crate::classes::Class;
 use crate::member_offences::in_token;
-use crate::offences::Offence;
 use crate::renamings::Renaming;
 use crate::respelling_table::is_clash;
 use crate::spelling::spelled;
 use analysis::Analysis;
 use cs_base::{Cause, Memory, Tok, is_reserved};
+use offences::{Class, Offence};
 use std::alloc::Global;
 
 // Whether the old or the new spelling of a token is reserved.

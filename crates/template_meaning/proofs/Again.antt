@@ -10,7 +10,7 @@ use Rattle.cs_base.specs.Token.{Token}
 use Rattle.c_types.specs.declared.lists.List.{List as NameList}
 use Rattle.unit_steps.specs.declared.events.Reached.{Reached}
 use Rattle.analysis.specs.Analysis.{UnitAnalysis, AnalysisValue}
-use Rattle.rename_meaning.proofs.ListLemmas.{In}
+use Rattle.edited_unit_laws.proofs.ListLemmas.{In}
 use Rattle.list_cuts.specs.Cuts.{numbers}
 use Rattle.template_rules.specs.Functions.{names_function}
 use Rattle.template_rules.specs.Lists.{each_mark}

@@ -16,7 +16,7 @@ use Rattle.tree_laws.specs.ToldNames.{AnonymousBegin, IdentifiersAreTold}
 use Rattle.source_files.specs.Files.{Source}
 use Rattle.ws_file.specs.Workspace.{WorkspaceValue}
 use Rattle.analysis.specs.Analysis.{UnitAnalysis, AnalysisValue}
-use Rattle.rename_meaning.proofs.ListLemmas.{In}
+use Rattle.edited_unit_laws.proofs.ListLemmas.{In}
 use Rattle.reordered_tree_laws.specs.Premises.{CanReorder}
 use Rattle.template_rules.specs.Lists.{parameters_of, arguments_of}
 use Rattle.template_meaning.specs.Accepted.{IsAccepted}

@@ -24,9 +24,9 @@ use Rattle.source_files.specs.Files.{Source}
 use Rattle.ws_file.specs.Workspace.{WorkspaceValue}
 use Rattle.analysis.specs.Analysis.{UnitAnalysis, AnalysisValue}
 use Rattle.analysis.specs.Places.{is_read_only}
-use Rattle.rename_rules.specs.declared.offences.Offence.{Offence}
-use Rattle.rename_rules.specs.First.{offence, standing}
-use Rattle.rename_meaning.proofs.ListLemmas.{In, nil_left, nil_right, map_nil, cons_nil, flat_nil}
+use Rattle.offences.specs.declared.firsts.Offence.{Offence}
+use Rattle.offences.specs.First.{offence, standing}
+use Rattle.edited_unit_laws.proofs.ListLemmas.{In, nil_left, nil_right, map_nil, cons_nil, flat_nil}
 use Rattle.list_cuts.specs.Cuts.{numbers}
 use Rattle.template_rules.specs.Functions.{origin_of, place_of, holds_at, is_function, declares_function}
 use Rattle.template_rules.specs.Insides.{inside_offences, list_insides, unit_insides, all_insides, all_macro_names}

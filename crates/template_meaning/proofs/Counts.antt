@@ -15,7 +15,7 @@ use Rattle.lexer.specs.FileText.{TextValue, LexFault, file_text}
 use Rattle.source_files.specs.Files.{SourceFile, source_file, Table}
 use Rattle.source_files.specs.KeptFiles.{KeptValue, kept_at}
 use Rattle.source_files.specs.Sources.{source_at, source_kept, read_as}
-use Rattle.rename_meaning.proofs.FileLemmas.{token_stands}
+use Rattle.edited_unit_laws.proofs.FileLemmas.{token_stands}
 use Rattle.lexer.proofs.OrderLemmas.{tokens_of-in_order}
 use Rattle.template_rules.specs.FileLists.{begun_before}
 use Rattle.unit_laws.proofs.ReorderedFileLemmas.{text_toks}

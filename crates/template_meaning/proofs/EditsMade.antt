@@ -9,7 +9,7 @@ use Rattle.std.proofs.lemmas.Option.{none-some, same_Some}
 use Rattle.cs_base.specs.Edit.{Edit, edit, comes_before}
 use Rattle.cs_base.proofs.FileMapLemmas.{bytes_eq-equal}
 use Rattle.tree_laws.proofs.Lookups.{In}
-use Rattle.rename_rules.specs.First.{IsAmong}
+use Rattle.offences.specs.First.{IsAmong}
 use Rattle.source_files.specs.Files.{Entry, Table, number_of}
 use Rattle.source_files.specs.KeptFiles.{KeptValue, kept_at, kept_in, kept_bytes}
 use Rattle.source_files.specs.Tables.{HasEachOnce, paths_in}

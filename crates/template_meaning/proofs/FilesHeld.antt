@@ -20,7 +20,7 @@ use Rattle.ws_file.specs.Workspace.{WorkspaceValue}
 use Rattle.analysis.specs.Analysis.{UnitAnalysis, AnalysisValue}
 use Rattle.analysis.specs.Places.{is_read_only, is_read_only_path}
 use Rattle.analysis.proofs.NamingLemmas.{split_at}
-use Rattle.rename_meaning.proofs.ListLemmas.{In}
+use Rattle.edited_unit_laws.proofs.ListLemmas.{In}
 use Rattle.list_cuts.specs.Cuts.{IsOrder}
 use Rattle.list_cuts.proofs.OrderLemmas.{orders_permute}
 use Rattle.template_rules.specs.declared.file_lists.FoundList.{FoundList}

@@ -22,10 +22,10 @@ use Rattle.unit_laws.proofs.DoneLemmas.{UnitRules}
 use Rattle.unit_laws.proofs.NoteLemmas.{TextHas}
 use Rattle.unit_laws.proofs.PartLemmas.{from_files}
 use Rattle.unit_laws.proofs.TextLemmas.{IsText, text_is, unit_text_has}
-use Rattle.rename_meaning.proofs.FileLemmas.{token_stands}
-use Rattle.rename_meaning.proofs.ListLemmas.{In}
-use Rattle.rename_meaning.proofs.TracedLemmas.{source_of_kept}
-use Rattle.rename_meaning.proofs.UnitsLemmas.{IsUnit, unit_is}
+use Rattle.edited_unit_laws.proofs.FileLemmas.{token_stands}
+use Rattle.edited_unit_laws.proofs.ListLemmas.{In}
+use Rattle.edited_unit_laws.proofs.TracedLemmas.{source_of_kept}
+use Rattle.edited_unit_laws.proofs.AnalysedUnitLemmas.{IsUnit, unit_is}
 use Rattle.template_rules.specs.FileLists.{all_found, lists_in}
 use Rattle.template_rules.specs.Functions.{origin_of}
 use Rattle.template_rules.specs.MacroOffences.{is_direct_at, is_direct}

@@ -12,11 +12,11 @@ use Rattle.c_types.specs.declared.lists.List.{List as NameList}
 use Rattle.lexer.specs.Tokens.{tokens_of}
 use Rattle.source_files.specs.Files.{Table}
 use Rattle.source_files.specs.KeptFiles.{KeptValue, kept_in, kept_at}
-use Rattle.rename_rules.specs.Tokens.{file_toks, kept_tokens}
+use Rattle.offences.specs.Tokens.{file_toks, kept_tokens}
 use Rattle.unit_laws.specs.UnitLinks.{IsIn}
 use Rattle.unit_steps.specs.Texts.{UnitTextValue}
-use Rattle.rename_meaning.proofs.FileLemmas.{token_stands}
-use Rattle.rename_meaning.proofs.ListLemmas.{In, in_flat}
+use Rattle.edited_unit_laws.proofs.FileLemmas.{token_stands}
+use Rattle.edited_unit_laws.proofs.ListLemmas.{In, in_flat}
 use Rattle.arranged_text_laws.specs.Lists as lists
 use Rattle.arranged_text_laws.specs.Calm as calm
 use Rattle.template_rules.specs.Functions.{origin_of}

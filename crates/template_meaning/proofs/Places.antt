@@ -17,7 +17,7 @@ use Rattle.source_files.specs.Tables.{HasEachOnce}
 use Rattle.unit_laws.specs.UnitLinks.{IsIn}
 use Rattle.ws_file.specs.Workspace.{WorkspaceValue, IsWorkspace}
 use Rattle.analysis.specs.Analysis.{UnitAnalysis, AnalysisValue}
-use Rattle.rename_meaning.proofs.TracedLemmas.{source_of_kept}
+use Rattle.edited_unit_laws.proofs.TracedLemmas.{source_of_kept}
 use Rattle.list_cuts.specs.Cuts.{Cut, done}
 use Rattle.list_cuts.specs.CutOf.{cut_of}
 use Rattle.reordered_text_laws.specs.Marks.{spans_by}

@@ -9,7 +9,7 @@ use Rattle.source_files.specs.Tables.{HasEachOnce}
 use Rattle.ws_file.specs.Workspace.{WorkspaceValue, IsWorkspace}
 use Rattle.analysis.specs.Analysis.{AnalysisValue, analysis_of}
 use Rattle.analysis.specs.Naming.{Names}
-use Rattle.rename_rules.specs.First.{IsFirst}
+use Rattle.offences.specs.First.{IsFirst}
 use Rattle.list_cuts.specs.Orders.{is_order}
 use Rattle.template_rules.specs.FileLists.{edits_of}
 use Rattle.template_rules.specs.Functions.{has_function}

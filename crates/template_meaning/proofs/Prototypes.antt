@@ -20,7 +20,7 @@ use Rattle.tree_laws.specs.Told.{is_ordinary, DeclaresAt}
 use Rattle.source_files.specs.Files.{Source}
 use Rattle.ws_file.specs.Workspace.{WorkspaceValue}
 use Rattle.analysis.specs.Analysis.{UnitAnalysis, AnalysisValue}
-use Rattle.rename_meaning.proofs.ListLemmas.{In}
+use Rattle.edited_unit_laws.proofs.ListLemmas.{In}
 use Rattle.template_rules.specs.Functions.{is_function}
 use Rattle.template_rules.specs.NameOffences.{has_prototype}
 use Rattle.template_meaning.specs.Accepted.{IsAccepted}

@@ -14,7 +14,7 @@ use Rattle.source_files.specs.Tables.{HasEachOnce, paths_in}
 use Rattle.analysis.specs.Analysis.{AnalysisValue}
 use Rattle.renamed.specs.Renamed.{Editing, edited_from, edited_table}
 use Rattle.renamed.specs.Renamed as numbered
-use Rattle.rename_meaning.proofs.ListLemmas.{any_at}
+use Rattle.edited_unit_laws.proofs.ListLemmas.{any_at}
 use Rattle.list_cuts.specs.Spans.{all_rearranged}
 use Rattle.unit_laws.specs.Edited.{Edit, edited_found, edited_entry, edited_files, edited_source}
 use Rattle.template_rules.specs.FileLists.{all_found, lists_in}

@@ -15,7 +15,7 @@ use Rattle.source_files.specs.Tables.{HasEachOnce}
 use Rattle.ws_file.specs.Workspace.{WorkspaceValue, IsWorkspace}
 use Rattle.analysis.specs.Analysis.{UnitAnalysis, AnalysisValue, analysis_of}
 use Rattle.edited_unit_laws.specs.Analyses.{IsRead}
-use Rattle.rename_meaning.proofs.UnitsLemmas.{ok_same}
+use Rattle.edited_unit_laws.proofs.AnalysedUnitLemmas.{ok_same}
 use Rattle.list_cuts.specs.Cuts.{Cut, arranged}
 use Rattle.list_cuts.proofs.CutLemmas.{arranged-map}
 use Rattle.reordered_tree_laws.specs.Reordered.{reordered}

@@ -10,7 +10,7 @@ use Rattle.tree_laws.proofs.Lookups as tree
 use Rattle.source_files.specs.Files.{Source}
 use Rattle.ws_file.specs.Workspace.{WorkspaceValue}
 use Rattle.analysis.specs.Analysis.{UnitAnalysis, AnalysisValue}
-use Rattle.rename_meaning.proofs.ListLemmas.{In}
+use Rattle.edited_unit_laws.proofs.ListLemmas.{In}
 use Rattle.tree_laws.specs.ReadTexts.{ReadParameterListsAreInOrder}
 use Rattle.list_cuts.specs.Cuts.{IsOrder}
 use Rattle.list_cuts.proofs.OrderLemmas.{orders_permute}

@@ -40,9 +40,9 @@ use Rattle.analysis.specs.Texts.{UnitFault, unit_fault, unit_with}
 use Rattle.lexer.proofs.FitLemmas.{identifier-words}
 use Rattle.analysis.proofs.NamingLemmas.{split_at}
 use Rattle.expansion_laws.proofs.ListLemmas.{toks_at}
-use Rattle.rename_meaning.proofs.ListLemmas.{In, found}
-use Rattle.rename_meaning.proofs.TracedLemmas.{AreChained, Traced}
-use Rattle.rename_meaning.proofs.UnitsLemmas.{ok_same, done_first, unmapped, unit_is, unit_spelled, unit_traced}
+use Rattle.edited_unit_laws.proofs.ListLemmas.{In, found}
+use Rattle.edited_unit_laws.proofs.TracedLemmas.{AreChained, Traced}
+use Rattle.edited_unit_laws.proofs.AnalysedUnitLemmas.{ok_same, done_first, unmapped, unit_is, unit_spelled, unit_traced}
 use Rattle.template_rules.specs.Functions.{origin_of}
 
 -- ---- lists

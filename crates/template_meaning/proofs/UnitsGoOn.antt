@@ -11,8 +11,8 @@ use Rattle.tree_laws.proofs.OfTexts.{trees_of_texts}
 use Rattle.source_files.specs.Files.{Source}
 use Rattle.ws_file.specs.Workspace.{WorkspaceValue}
 use Rattle.analysis.specs.Analysis.{UnitAnalysis, AnalysisValue}
-use Rattle.rename_meaning.proofs.ListLemmas.{In}
-use Rattle.rename_meaning.proofs.UnitsLemmas.{unit_is, unit_spelled}
+use Rattle.edited_unit_laws.proofs.ListLemmas.{In}
+use Rattle.edited_unit_laws.proofs.AnalysedUnitLemmas.{unit_is, unit_spelled}
 use Rattle.list_cuts.specs.Cuts.{Cut, arranged}
 use Rattle.list_cuts.proofs.CutLemmas.{arranged-map}
 use Rattle.reordered_tree_laws.specs.Premises.{CanReorder, ReorderedBindAlike}

@@ -4,7 +4,7 @@ use Rattle.cs_base.specs.declared.positions.Part.{Part}
 use Rattle.source_files.specs.Files.{Source}
 use Rattle.ws_file.specs.Workspace.{WorkspaceValue}
 use Rattle.analysis.specs.Analysis.{AnalysisValue, analysis_of}
-use Rattle.rename_rules.specs.First.{IsFirst}
+use Rattle.offences.specs.First.{IsFirst}
 use Rattle.list_cuts.specs.Orders.{is_order}
 use Rattle.template_rules.specs.Functions.{has_function}
 use Rattle.template_rules.specs.Lists.{count_of}

@@ -4,7 +4,7 @@ use Rattle.std.specs.Prelude.{ℕ, ◌≡◌, ◌≢◌, true, false, List, [], 
 use Rattle.std.specs.Str.{bytes_eq}
 use Rattle.cs_base.specs.declared.positions.Part.{Part}
 use Rattle.cs_base.specs.Edit.{Edit}
-use Rattle.rename_rules.specs.First.{IsAmong, IsFirst}
+use Rattle.offences.specs.First.{IsAmong, IsFirst}
 use Rattle.source_files.specs.Files.{Source}
 use Rattle.source_files.specs.KeptFiles.{KeptValue, kept_at}
 use Rattle.source_files.specs.Tables.{HasEachOnce}

@@ -1,6 +1,6 @@
 // The edits of a new order, with what they keep.
 ghost use Rattle.std.specs.Prelude.{IfOk};
-ghost use Rattle.rename_rules.specs.Renaming.{GivesOne};
+ghost use Rattle.offences.specs.Answers.{GivesOne};
 ghost use Rattle.template_meaning.specs.Kept.{ReordersOver};
 ghost use Rattle.template_rules.specs.Refusals.{refusal_of};
 ghost use Rattle.template_rules.specs.Template.{IsTemplate};

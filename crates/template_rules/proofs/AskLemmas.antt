@@ -13,7 +13,7 @@ use Rattle.template_rules.specs.declared.list_macros.Asked.{Asked}
 use Rattle.template_rules.specs.declared.list_macros.Asked.TheVariants as asked
 use Rattle.template_rules.specs.declared.unit_functions.UnitFunctions.{UnitFunctions}
 use Rattle.template_rules.specs.Asking.{asks, is_of_run}
-use Rattle.rename_rules.specs.Class.{ClassValue}
+use Rattle.offences.specs.Class.{ClassValue}
 use Rattle.template_rules.specs.Lists.{each_mark}
 use Rattle.template_rules.specs.MacroOffences.{run_of, item_of, is_list_through, is_list_for, is_mark_everywhere}
 use Rattle.template_rules.specs.Units.{AreUnits}

@@ -11,7 +11,7 @@ use Rattle.cs_base.specs.Token.{Token}
 use Rattle.analysis.specs.Below.scope_bind.declared.bound.Name.{Name}
 use Rattle.analysis.specs.Analysis.{UnitAnalysis}
 use Rattle.template_rules.specs.declared.unit_functions.UnitFunctions.{UnitFunctions}
-use Rattle.rename_rules.specs.Class.{ClassValue}
+use Rattle.offences.specs.Class.{ClassValue}
 use Rattle.template_rules.specs.Functions.{is_named, is_function, has_function, AreFunctionsOf}
 use Rattle.template_rules.specs.Units.{IsUnitAt, AreUnits, has_some}
 use Rattle.template_rules.proofs.UnitLemmas.{units_any}

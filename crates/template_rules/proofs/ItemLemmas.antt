@@ -13,7 +13,7 @@ use Rattle.c_types.specs.declared.lists.List.{List as NameList}
 use Rattle.analysis.specs.Below.scope_bind.Bound.{Bound}
 use Rattle.analysis.specs.Analysis.{UnitAnalysis}
 use Rattle.list_cuts.specs.Cuts.{numbers}
-use Rattle.rename_rules.specs.Class.{ClassValue}
+use Rattle.offences.specs.Class.{ClassValue}
 use Rattle.template_rules.specs.declared.item_units.ItemUnits.{ItemUnits}
 use Rattle.template_rules.specs.declared.list_macros.Asked.{Asked}
 use Rattle.template_rules.specs.declared.list_macros.Asked.TheVariants as asked

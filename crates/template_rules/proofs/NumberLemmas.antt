@@ -7,9 +7,9 @@ use Rattle.std.proofs.Math.Bool.{or-false}
 use Rattle.cs_base.specs.declared.causes.Cause.{Cause}
 use Rattle.cs_base.specs.declared.positions.Pos.{Pos}
 use Rattle.analysis.specs.Below.source_files.Files.{Table}
-use Rattle.rename_rules.specs.declared.offences.Offence.{Offence}
-use Rattle.rename_rules.specs.First.{standing, FirstThen}
-use Rattle.rename_rules.proofs.FirstLemmas.{then_none, then_next, then_all}
+use Rattle.offences.specs.declared.firsts.Offence.{Offence}
+use Rattle.offences.specs.First.{standing, FirstThen}
+use Rattle.offences.proofs.FirstLemmas.{then_none, then_next, then_all}
 use Rattle.list_cuts.specs.Cuts.{numbers}
 use Rattle.list_cuts.proofs.OrderLemmas.{length-numbers, get_or-numbers}
 

@@ -16,7 +16,7 @@ use Rattle.analysis.specs.Below.lexer.GoneTable.{going}
 use Rattle.analysis.proofs.Below.lexer.GoneLemmas.{logical_from-going, logical_from-empty}
 use Rattle.analysis.specs.Below.source_files.Files.{Table, Entry, Absent, entry}
 use Rattle.analysis.specs.Below.source_files.KeptFiles.{kept_at}
-use Rattle.rename_rules.specs.Tokens.{file_toks, kept_tokens}
+use Rattle.offences.specs.Tokens.{file_toks, kept_tokens}
 use Rattle.template_rules.specs.LineOffences.{is_line_feed_at, line_begin}
 
 -- ---- bytes of characters

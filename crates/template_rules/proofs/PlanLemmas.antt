@@ -14,9 +14,9 @@ use Rattle.analysis.specs.Below.source_files.Files.{Entry, Table}
 use Rattle.analysis.specs.Below.source_files.KeptFiles.{KeptValue, kept, kept_bytes, kept_in, kept_at}
 use Rattle.analysis.specs.Below.source_files.Tables.{paths_in, AreText}
 use Rattle.analysis.specs.Analysis.{AnalysisValue}
-use Rattle.rename_rules.specs.declared.offences.Offence.{Offence}
-use Rattle.rename_rules.specs.First.{IsFirst, FirstThen}
-use Rattle.rename_rules.specs.Renaming.{GivesOne}
+use Rattle.offences.specs.declared.firsts.Offence.{Offence}
+use Rattle.offences.specs.First.{IsFirst, FirstThen}
+use Rattle.offences.specs.Answers.{GivesOne}
 use Rattle.template_rules.specs.FileLists.{new_bytes, edit_for}
 use Rattle.template_rules.specs.Functions.{has_function}
 use Rattle.template_rules.specs.Lists.{count_of}

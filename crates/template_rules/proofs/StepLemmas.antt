@@ -4,9 +4,9 @@ use Rattle.std.specs.List.{flat_map}
 use Rattle.std.proofs.lemmas.Grind.{flat_map-append}
 use Rattle.std.proofs.lemmas.List.{get_or_default, take_more, take_all}
 use Rattle.analysis.specs.Below.source_files.Files.{Table}
-use Rattle.rename_rules.specs.declared.offences.Offence.{Offence}
-use Rattle.rename_rules.specs.First.{FirstThen}
-use Rattle.rename_rules.proofs.FirstLemmas.{then_both}
+use Rattle.offences.specs.declared.firsts.Offence.{Offence}
+use Rattle.offences.specs.First.{FirstThen}
+use Rattle.offences.proofs.FirstLemmas.{then_both}
 
 -- one element more
 pub flat_map-more : {X A : Type 0} (g : X → List A) (xs : List X) (k : ℕ) (x : X) → k < length xs → x ≡ get_or xs k x

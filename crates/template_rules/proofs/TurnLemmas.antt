@@ -15,9 +15,9 @@ use Rattle.analysis.specs.Below.source_files.Files.{Table}
 use Rattle.analysis.specs.Below.unit_steps.declared.events.Event.{Event}
 use Rattle.analysis.specs.Below.scope_bind.declared.bound.Name.{Name}
 use Rattle.analysis.specs.Below.scope_bind.Names.{entity_at}
-use Rattle.rename_rules.specs.declared.offences.Offence.{Offence}
-use Rattle.rename_rules.specs.First.{offence, standing, IsAmong, IsFirst, FirstThen}
-use Rattle.rename_rules.proofs.FirstLemmas.{then_none}
+use Rattle.offences.specs.declared.firsts.Offence.{Offence}
+use Rattle.offences.specs.First.{offence, standing, IsAmong, IsFirst, FirstThen}
+use Rattle.offences.proofs.FirstLemmas.{then_none}
 use Rattle.template_rules.specs.declared.unit_functions.UnitFunctions.{UnitFunctions}
 use Rattle.template_rules.specs.Functions.{is_list_of}
 use Rattle.template_rules.specs.Insides.{list_insides}

@@ -13,17 +13,12 @@ use Rattle.c_types.specs.declared.lists.List.{List as NameList}
 use Rattle.c_types.specs.declared.parameters.ParameterList.{ParameterList}
 use Rattle.c_types.specs.Parameters.{parameters_in}
 use Rattle.analysis.specs.Analysis.{UnitAnalysis, AnalysisValue}
-use Rattle.analysis.specs.Below.scope_bind.declared.bound.Name.{Name}
-use Rattle.analysis.specs.Below.scope_bind.Bound.{Bound}
-use Rattle.analysis.specs.Below.scope_bind.Names.{entity_at}
-use Rattle.analysis.specs.Below.unit_steps.Texts.{UnitTextValue}
-use Rattle.analysis.specs.Below.unit_steps.declared.events.Reached.{Reached}
-use Rattle.rename_rules.specs.declared.offences.Offence.{Offence}
-use Rattle.rename_rules.specs.First.{standing, FirstThen}
+use Rattle.offences.specs.declared.firsts.Offence.{Offence}
+use Rattle.offences.specs.First.{standing, FirstThen}
 use Rattle.template_rules.specs.declared.counting.Declarator.{Declarator}
 use Rattle.template_rules.specs.declared.file_lists.FoundList.{FoundList}
 use Rattle.template_rules.specs.declared.unit_functions.UnitFunctions.{UnitFunctions}
-use Rattle.rename_rules.specs.Class.{ClassValue}
+use Rattle.offences.specs.Class.{ClassValue}
 use Rattle.template_rules.specs.FileLists.{unit_found}
 use Rattle.template_rules.specs.Functions.{AreFunctionsOf, declares_function, is_function, names_function}
 use Rattle.template_rules.specs.Insides.{list_insides, unit_insides, unit_macro_names}

@@ -11,7 +11,7 @@ use Rattle.analysis.specs.Below.scope_bind.declared.bound.Name.{Name}
 use Rattle.analysis.specs.Below.scope_bind.Bound.{is_function_name}
 use Rattle.analysis.specs.Below.scope_bind.Names.{entity_at}
 use Rattle.analysis.specs.Analysis.{UnitAnalysis, AnalysisValue}
-use Rattle.rename_rules.specs.Tokens.{holds_member}
+use Rattle.offences.specs.Tokens.{holds_member}
 
 -- ---- tokens
 

@@ -9,8 +9,8 @@ use Rattle.analysis.specs.Below.unit_steps.declared.events.Event.{Event}
 use Rattle.c_types.specs.declared.lists.List.{List as NameList}
 use Rattle.analysis.specs.Below.scope_bind.declared.bound.Name.{Name}
 use Rattle.analysis.specs.Analysis.{UnitAnalysis, AnalysisValue}
-use Rattle.rename_rules.specs.declared.offences.Offence.{Offence}
-use Rattle.rename_rules.specs.First.{standing}
+use Rattle.offences.specs.declared.firsts.Offence.{Offence}
+use Rattle.offences.specs.First.{standing}
 use Rattle.template_rules.specs.Functions.{names_function}
 use Rattle.template_rules.specs.MacroOffences.{line_number_places, replaced_place, pasted_place}
 use Rattle.template_rules.specs.ScopeOffences.{declaration_places}

@@ -14,7 +14,7 @@ use Rattle.analysis.specs.Below.source_files.KeptFiles.{KeptValue, kept_at}
 use Rattle.c_types.specs.declared.lists.List.{List as NameList}
 use Rattle.analysis.specs.Below.unit_steps.Texts.{UnitTextValue}
 use Rattle.list_cuts.specs.Cuts.{numbers}
-use Rattle.rename_rules.specs.Tokens.{kept_tokens}
+use Rattle.offences.specs.Tokens.{kept_tokens}
 use Rattle.template_rules.specs.Functions.{origin_of}
 use Rattle.template_rules.specs.Marks.{is_across}
 use Rattle.template_rules.specs.MacroOffences.{is_direct}

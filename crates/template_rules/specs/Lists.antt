@@ -16,7 +16,7 @@ use Rattle.c_types.specs.Parameters.{parameters_in}
 use Rattle.analysis.specs.Below.scope_bind.declared.bound.Name.{Name}
 use Rattle.analysis.specs.Below.source_files.Files.{Table}
 use Rattle.analysis.specs.Analysis.{UnitAnalysis, AnalysisValue}
-use Rattle.rename_rules.specs.First.{position_cmp}
+use Rattle.offences.specs.First.{position_cmp}
 use Rattle.template_rules.specs.declared.counting.Declarator.{Declarator}
 use Rattle.template_rules.specs.Functions.{place_of, declares_function}
 

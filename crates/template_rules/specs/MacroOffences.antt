@@ -17,7 +17,7 @@ use Rattle.analysis.specs.Below.unit_steps.Texts.{UnitTextValue}
 use Rattle.analysis.specs.Below.scope_bind.declared.bound.Name.{Name}
 use Rattle.analysis.specs.Below.scope_bind.Bound.{Bound}
 use Rattle.analysis.specs.Analysis.{UnitAnalysis, AnalysisValue}
-use Rattle.rename_rules.specs.Tokens.{holds_member, first_place}
+use Rattle.offences.specs.Tokens.{holds_member, first_place}
 use Rattle.list_cuts.specs.Cuts.{numbers}
 use Rattle.template_rules.specs.Functions.{origin_of, place_of, names_function}
 use Rattle.template_rules.specs.Lists.{each_mark, some_mark}

@@ -14,8 +14,8 @@ use Rattle.c_types.specs.Parameters.{parameters_in}
 use Rattle.analysis.specs.Below.scope_bind.declared.bound.Name.{Name}
 use Rattle.analysis.specs.Analysis.{UnitAnalysis, AnalysisValue}
 use Rattle.analysis.specs.Places.{is_read_only}
-use Rattle.rename_rules.specs.declared.offences.Offence.{Offence}
-use Rattle.rename_rules.specs.First.{standing}
+use Rattle.offences.specs.declared.firsts.Offence.{Offence}
+use Rattle.offences.specs.First.{standing}
 use Rattle.template_rules.specs.Functions.{origin_of, place_of, names_function}
 use Rattle.template_rules.specs.Lists.{parameters_of, arguments_of}
 

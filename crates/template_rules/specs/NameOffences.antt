@@ -13,8 +13,8 @@ use Rattle.c_types.specs.declared.parameters.ParameterList.{ParameterList}
 use Rattle.c_types.specs.Parameters.{parameters_in}
 use Rattle.analysis.specs.Below.scope_bind.declared.bound.Name.{Name}
 use Rattle.analysis.specs.Analysis.{UnitAnalysis, AnalysisValue}
-use Rattle.rename_rules.specs.declared.offences.Offence.{Offence}
-use Rattle.rename_rules.specs.First.{standing}
+use Rattle.offences.specs.declared.firsts.Offence.{Offence}
+use Rattle.offences.specs.First.{standing}
 use Rattle.template_rules.specs.Functions.{holds_at, place_of, declares_function}
 use Rattle.template_rules.specs.Lists.{parameters_at}
 

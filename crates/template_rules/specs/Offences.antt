@@ -11,8 +11,8 @@ use Rattle.c_types.specs.Parameters.{parameters_in}
 use Rattle.analysis.specs.Below.scope_bind.Bound.{Bound}
 use Rattle.analysis.specs.Below.unit_steps.Texts.{UnitTextValue}
 use Rattle.analysis.specs.Analysis.{UnitAnalysis, AnalysisValue}
-use Rattle.rename_rules.specs.declared.offences.Offence.{Offence}
-use Rattle.rename_rules.specs.First.{standing}
+use Rattle.offences.specs.declared.firsts.Offence.{Offence}
+use Rattle.offences.specs.First.{standing}
 use Rattle.template_rules.specs.Functions.{names_function}
 use Rattle.template_rules.specs.Marks.{all_marks}
 use Rattle.template_rules.specs.NameOffences.{all_names}

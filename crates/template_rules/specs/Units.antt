@@ -6,7 +6,7 @@ use Rattle.c_types.specs.Parameters.{parameters_in}
 use Rattle.analysis.specs.Analysis.{UnitAnalysis}
 use Rattle.template_rules.specs.declared.unit_functions.UnitFunctions.{UnitFunctions}
 use Rattle.template_rules.specs.declared.file_lists.FoundList.{FoundList}
-use Rattle.rename_rules.specs.Class.{ClassValue}
+use Rattle.offences.specs.Class.{ClassValue}
 use Rattle.template_rules.specs.FileLists.{function_list}
 use Rattle.template_rules.specs.ScopeOffences.{body_lists_in}
 

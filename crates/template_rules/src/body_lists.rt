@@ -5,7 +5,7 @@ ghost use Rattle.std.specs.Option.{option_map, option_map_or};
 ghost use Rattle.cs_base.specs.declared.causes.Cause.TheVariants as cause;
 ghost use Rattle.c_types.specs.Children.{from_child};
 ghost use Rattle.c_types.specs.Trees.{first_list};
-ghost use Rattle.rename_rules.specs.First.{standing, FirstThen};
+ghost use Rattle.offences.specs.First.{standing, FirstThen};
 ghost use Rattle.template_rules.specs.ScopeOffences.{begins_body, body_list, body_lists_in, body_place, is_inside};
 
 use crate::places::at_token;
@@ -13,7 +13,7 @@ use analysis::Analysis;
 use c_types::{List, Part as Child, child_at, first_list, is_node};
 use c99_tree::{Production, Tree};
 use cs_base::{Cause, Memory, Tok};
-use rename_rules::Offence;
+use offences::Offence;
 use std::alloc::Global;
 
 // Whether what follows a declarator begins with a body.

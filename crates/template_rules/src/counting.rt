@@ -10,7 +10,7 @@ use crate::unit_functions::{UnitFunctions, declares_function};
 use analysis::{Analysis, Name};
 use c_types::{List, ParameterForm, ParameterList};
 use cs_base::Pos;
-use rename_rules::compare;
+use offences::compare;
 use std::cmp::Ordering;
 
 /// A declarator of a function: where its name stands, and how many parameters it has.

@@ -4,7 +4,7 @@ ghost use Rattle.std.specs.List.{flat_map, list_any, remove};
 ghost use Rattle.cs_base.specs.declared.causes.Cause.TheVariants as cause;
 ghost use Rattle.c_types.specs.Declarations.{spelling_at, is_in};
 ghost use Rattle.list_cuts.specs.Cuts.{numbers};
-ghost use Rattle.rename_rules.specs.First.{standing, FirstThen};
+ghost use Rattle.offences.specs.First.{standing, FirstThen};
 ghost use Rattle.template_rules.specs.Lists.{separators};
 ghost use Rattle.template_rules.specs.ScopeOffences.{is_ordinary, uses_ordinary, is_used_at, is_use, is_spelled_as, dependence_place, dependence_between, dependence_in, dependence_places};
 
@@ -13,7 +13,7 @@ use crate::places::at_token;
 use analysis::{Analysis, Name};
 use c_types::{EntityKind, List, ParameterList};
 use cs_base::{Cause, Tok};
-use rename_rules::Offence;
+use offences::Offence;
 
 fn is_ordinary(kind: EntityKind) -> bool
     ensures { result ≡ is_ordinary kind }

@@ -3,7 +3,7 @@ ghost use Rattle.std.specs.Prelude.{◌≡◌, ◌==◌, ◌||◌, ◌&&◌, ◌
 ghost use Rattle.std.specs.List.{list_any};
 ghost use Rattle.analysis.specs.Analysis.{UnitAnalysis};
 ghost use Rattle.analysis.specs.Below.scope_bind.Bound.{is_function_name};
-ghost use Rattle.rename_rules.specs.Class.{class_over, IsClass};
+ghost use Rattle.offences.specs.Class.{class_over, IsClass};
 ghost use Rattle.template_rules.specs.Functions.{holds_at, is_named, has_function, AreFunctionsOf};
 ghost use Rattle.template_rules.specs.Units.{AreOfTree, AreUnits, IsUnitAt, has_some};
 
@@ -12,7 +12,7 @@ use crate::unit_functions::{UnitFunctions, has, push_named};
 use analysis::{Analysis, Name};
 use c_types::{EntityKind, Indices, ParameterList, parameter_lists};
 use cs_base::{Memory, Part, Tok};
-use rename_rules::{Class, holds_member};
+use offences::{Class, holds_member};
 use std::alloc::Global;
 use std::marker::Model;
 
@@ -27,7 +27,7 @@ pub struct Functions<'a> {
 impl<'a> Model for Functions<'a> {
     ghost use Rattle.std.specs.Coded.{codes};
     ghost use Rattle.c99_tree.specs.TreeCode.{node_code};
-    ghost use Rattle.rename_rules.specs.Class.{ClassValue};
+    ghost use Rattle.offences.specs.Class.{ClassValue};
     ghost use Rattle.template_rules.specs.Units.{AreUnits};
 
     ghost Value = { ClassValue };

@@ -2,7 +2,7 @@
 ghost use Rattle.std.specs.Prelude.{◌≡◌, ◌++◌};
 ghost use Rattle.std.specs.List.{flat_map};
 ghost use Rattle.cs_base.specs.declared.causes.Cause.TheVariants as cause;
-ghost use Rattle.rename_rules.specs.First.{standing, FirstThen};
+ghost use Rattle.offences.specs.First.{standing, FirstThen};
 ghost use Rattle.template_rules.specs.Insides.{list_insides, all_insides};
 ghost use Rattle.template_rules.specs.MacroOffences.{is_line_number, line_number_place};
 ghost use Rattle.template_rules.specs.ScopeOffences.{is_type_or_constant, is_function_word, declares_more, declaration_place};
@@ -15,7 +15,7 @@ use crate::unit_functions::UnitFunctions;
 use analysis::{Analysis, Event, Name};
 use c_types::{EntityKind, List};
 use cs_base::{Cause, Tok};
-use rename_rules::{Offence, first_with};
+use offences::{Offence, first_with};
 
 // Whether an event replaces `__LINE__` by the number of its line.
 fn is_line_number(event: &Event) -> bool

@@ -4,7 +4,7 @@ ghost use Rattle.std.specs.List.{list_any, list_all};
 ghost use Rattle.std.specs.Option.{option_copied, option_map_or};
 ghost use Rattle.cs_base.specs.declared.causes.Cause.TheVariants as cause;
 ghost use Rattle.list_cuts.specs.Cuts.{numbers};
-ghost use Rattle.rename_rules.specs.First.{standing, FirstThen};
+ghost use Rattle.offences.specs.First.{standing, FirstThen};
 ghost use Rattle.template_rules.specs.Lists.{each_mark, some_mark};
 ghost use Rattle.template_rules.specs.MacroOffences.{is_direct, is_direct_at, is_pos, is_same, are_same, is_same_list, run_of, item_of, is_item, is_mark_in, is_list_at, is_list_in, is_list_as, is_list_through, is_list_for, is_mark_everywhere, macro_place};
 ghost use Rattle.template_rules.specs.Asking.{asks, is_of_run, AreWithin};
@@ -16,7 +16,7 @@ use crate::unit_functions::{UnitFunctions, names_function};
 use analysis::Reached;
 use c_types::List;
 use cs_base::{Cause, Pos, Tok};
-use rename_rules::Offence;
+use offences::Offence;
 
 fn is_direct_at(toks: &[Tok], k: u32) -> bool
     ensures { result ≡ is_direct_at toks.now k }

@@ -2,7 +2,7 @@
 ghost use Rattle.std.specs.Prelude.{◌≡◌};
 ghost use Rattle.std.specs.List.{flat_map};
 ghost use Rattle.cs_base.specs.declared.causes.Cause.TheVariants as cause;
-ghost use Rattle.rename_rules.specs.First.{standing, FirstThen};
+ghost use Rattle.offences.specs.First.{standing, FirstThen};
 ghost use Rattle.template_rules.specs.Functions.{names_function};
 ghost use Rattle.template_rules.specs.Lists.{arguments_of, parameters_of};
 ghost use Rattle.template_rules.specs.Marks.{read_only_place, is_across, across_place, count_place, mark_offences, declarator_marks, call_marks, all_marks};
@@ -14,7 +14,7 @@ use crate::unit_functions::{UnitFunctions, names_function};
 use analysis::{Analysis, Reached};
 use c_types::List;
 use cs_base::{Cause, Tok};
-use rename_rules::{Offence, first_with};
+use offences::{Offence, first_with};
 
 // `ReadOnly` at a list.
 fn read_only_at(a: &Analysis, toks: &[Tok], list: &List, first: Option<Offence>) -> Option<Offence>

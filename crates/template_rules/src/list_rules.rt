@@ -1,7 +1,7 @@
 // What stands against a new order at lists, beside what their marks say and what happens inside them.
 ghost use Rattle.std.specs.Prelude.{◌≡◌, IfOk};
 ghost use Rattle.std.specs.List.{flat_map};
-ghost use Rattle.rename_rules.specs.First.{FirstThen};
+ghost use Rattle.offences.specs.First.{FirstThen};
 ghost use Rattle.template_rules.specs.Asking.{AreWithin};
 ghost use Rattle.template_rules.specs.Offences.{list_offences, declarator_offences, call_offences, all_lists};
 
@@ -15,7 +15,7 @@ use crate::unit_functions::{UnitFunctions, names_function};
 use analysis::UnitText;
 use c_types::List;
 use cs_base::{Memory, Pos};
-use rename_rules::Offence;
+use offences::Offence;
 use std::alloc::Global;
 
 // `InMacro` and `OddToken` at a list.

@@ -3,15 +3,15 @@ ghost use Rattle.std.specs.Prelude.{◌≡◌};
 ghost use Rattle.std.specs.List.{flat_map};
 ghost use Rattle.cs_base.specs.declared.causes.Cause.TheVariants as cause;
 ghost use Rattle.analysis.specs.Below.line_shape.Signs.{is_name};
-ghost use Rattle.rename_rules.specs.First.{standing, FirstThen};
-ghost use Rattle.rename_rules.specs.Tokens.{first_place};
+ghost use Rattle.offences.specs.First.{standing, FirstThen};
+ghost use Rattle.offences.specs.Tokens.{first_place};
 ghost use Rattle.template_rules.specs.Insides.{all_macro_names};
 ghost use Rattle.template_rules.specs.MacroOffences.{is_replacing, held_place, replaced_place, pasted_place};
 
 use crate::functions::Functions;
 use analysis::{Analysis, Event, EventKind};
 use cs_base::{Cause, Kind, Tok};
-use rename_rules::{Class, Offence, first_with, holds_member};
+use offences::{Class, Offence, first_with, holds_member};
 
 // A cause that stands where a token begins.
 fn at_first(a: &Analysis, tok: &Tok, cause: Cause, first: Option<Offence>) -> Option<Offence>

@@ -2,7 +2,7 @@
 ghost use Rattle.std.specs.Prelude.{◌≡◌};
 ghost use Rattle.std.specs.List.{flat_map};
 ghost use Rattle.cs_base.specs.declared.causes.Cause.TheVariants as cause;
-ghost use Rattle.rename_rules.specs.First.{standing, FirstThen};
+ghost use Rattle.offences.specs.First.{standing, FirstThen};
 ghost use Rattle.template_rules.specs.NameOffences.{has_prototype, is_callee, is_prototype, no_prototype_place, value_place, name_offences, all_names};
 
 use crate::counting::parameters_at;
@@ -12,7 +12,7 @@ use crate::unit_functions::{UnitFunctions, declares_function};
 use analysis::{Analysis, Name};
 use c_types::{List, ParameterForm, ParameterList};
 use cs_base::Cause;
-use rename_rules::Offence;
+use offences::Offence;
 
 fn is_prototype(form: ParameterForm) -> bool
     ensures { result ≡ is_prototype form }

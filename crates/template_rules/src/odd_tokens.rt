@@ -5,8 +5,8 @@ ghost use Rattle.std.specs.Option.{option_map_or};
 ghost use Rattle.cs_base.specs.declared.causes.Cause.TheVariants as cause;
 ghost use Rattle.list_cuts.specs.Cuts.{numbers};
 ghost use Rattle.analysis.specs.Below.source_files.KeptFiles.{kept_at};
-ghost use Rattle.rename_rules.specs.First.{standing, FirstThen};
-ghost use Rattle.rename_rules.specs.Tokens.{file_toks};
+ghost use Rattle.offences.specs.First.{standing, FirstThen};
+ghost use Rattle.offences.specs.Tokens.{file_toks};
 ghost use Rattle.template_rules.specs.LineOffences.{is_line_feed_at, line_begin, is_odd, odd_position, odd_positions, is_on_line, is_token_on, is_by_list, is_among_lines, is_among_list, is_odd_by, odd_place, odd_places};
 
 use crate::list_macros::is_direct;
@@ -15,7 +15,7 @@ use crate::places::origin_of;
 use analysis::{Analysis, KeptFile, UnitText};
 use c_types::List;
 use cs_base::{Cause, Kind, Memory, Pos, Tok};
-use rename_rules::{Offence, first_with};
+use offences::{Offence, first_with};
 use std::alloc::Global;
 
 fn is_line_feed_at(file: &KeptFile, at: u32) -> bool

@@ -1,11 +1,11 @@
 // Where tokens stand, and causes at them.
 ghost use Rattle.std.specs.Prelude.{◌≡◌};
-ghost use Rattle.rename_rules.specs.First.{standing, FirstThen};
+ghost use Rattle.offences.specs.First.{standing, FirstThen};
 ghost use Rattle.template_rules.specs.Functions.{origin_of, place_of};
 
 use analysis::Analysis;
 use cs_base::{Cause, Pos, Tok};
-use rename_rules::{Offence, first_with};
+use offences::{Offence, first_with};
 
 /// Where the first character of token `k` comes from.
 pub(crate) fn origin_of(toks: &[Tok], k: u32) -> Option<Pos>

@@ -1,9 +1,9 @@
 // The edits of a new order, or its first refusal.
 ghost use Rattle.std.specs.Prelude.{◌≡◌, None, length, true, IfOk};
 ghost use Rattle.list_cuts.specs.Cuts.{IsOrder};
-ghost use Rattle.rename_rules.specs.Class.{IsClass};
-ghost use Rattle.rename_rules.specs.First.{IsFirst};
-ghost use Rattle.rename_rules.specs.Renaming.{GivesOne};
+ghost use Rattle.offences.specs.Class.{IsClass};
+ghost use Rattle.offences.specs.First.{IsFirst};
+ghost use Rattle.offences.specs.Answers.{GivesOne};
 ghost use Rattle.analysis.specs.Parts.{IsPart};
 ghost use Rattle.template_rules.specs.Lists.{count_of};
 ghost use Rattle.template_rules.specs.Offences.{offences_of};
@@ -22,7 +22,7 @@ use crate::refusals::{TemplateRefusal, refused};
 use analysis::Analysis;
 use cs_base::{Edits, Memory, Part};
 use list_cuts::is_order;
-use rename_rules::Offence;
+use offences::Offence;
 use std::alloc::Global;
 
 /// The edits that put the parameters of the functions which a place names into a new order, with the arguments of their

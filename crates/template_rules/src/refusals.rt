@@ -6,7 +6,7 @@ ghost use Rattle.template_rules.specs.Template.{refused_for};
 
 use analysis::Analysis;
 use cs_base::{Cause, Memory as NoMemory, Place, Pos, Text};
-use rename_rules::Offence;
+use offences::Offence;
 use std::alloc::Global;
 
 /// What `plan_template` answers where it gives no edits, in the order in which it looks.

@@ -8,7 +8,7 @@ ghost use Rattle.template_rules.specs.Functions.{names_function, declares_functi
 use analysis::{Bound, Name, UnitText};
 use c_types::{Indices, List, ParameterList};
 use cs_base::Memory;
-use rename_rules::Class;
+use offences::Class;
 
 /// A unit of an analysis: its text, and what its identifiers denote; the functions that a class names, each by the first
 /// token that declares it; of its tree the parameter lists of declarators, and where those lists end whose names bodies

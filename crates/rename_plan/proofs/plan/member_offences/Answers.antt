@@ -1,8 +1,9 @@
 use Rattle.cs_base.specs.declared.causes.Cause.TheVariants as cause
 use Rattle.std.proofs.Common.{◌++◌, None}
-use Rattle.rename_rules.specs.First.{member_offences, standing}
+use Rattle.offences.specs.First.{standing}
+use Rattle.rename_rules.specs.Offences.{member_offences}
 use Rattle.rename_rules.specs.Offences.{read_only_places, reserved_places, kept_string_places, header_places, no_identifier_places}
-use Rattle.rename_rules.proofs.FirstLemmas.{then_both}
+use Rattle.offences.proofs.FirstLemmas.{then_both}
 use Rattle.rename_plan.proofs.plan.member_offences.Goals as goal
 
 pub returns : goal.returns

@@ -1,8 +1,9 @@
 use Rattle.cs_base.specs.declared.causes.Cause.TheVariants as cause
 use Rattle.std.proofs.Common.{◌++◌}
-use Rattle.rename_rules.specs.First.{spelling_offences, standing}
+use Rattle.offences.specs.First.{standing}
+use Rattle.rename_rules.specs.Offences.{spelling_offences}
 use Rattle.rename_rules.specs.Offences.{occurring_places, clashing_places, too_large_places, shadowed_places}
-use Rattle.rename_rules.proofs.FirstLemmas.{then_both}
+use Rattle.offences.proofs.FirstLemmas.{then_both}
 use Rattle.rename_plan.proofs.plan.spelling_offences.Goals as goal
 
 pub returns : goal.returns

@@ -1,6 +1,6 @@
 use Rattle.cs_base.specs.declared.causes.Cause.TheVariants as cause
 use Rattle.rename_rules.specs.Respellings.{bare_places_by}
-use Rattle.rename_rules.proofs.FirstLemmas.{then_none, then_next_or, then_all}
+use Rattle.offences.proofs.FirstLemmas.{then_none, then_next_or, then_all}
 use Rattle.rename_rules.proofs.bare_offences.at_indices.Goals as goal
 
 pub loop-k-init : goal.loop-k-init

@@ -7,7 +7,7 @@ use Rattle.analysis.specs.Analysed.{Analysed}
 use Rattle.analysis.specs.Analysis.{UnitAnalysis}
 use Rattle.rename_rules.specs.Offences.{bare_places, shadowed_places}
 use Rattle.rename_rules.specs.RenamingValue.{held}
-use Rattle.rename_rules.proofs.FirstLemmas.{then_none, then_all}
+use Rattle.offences.proofs.FirstLemmas.{then_none, then_all}
 use Rattle.rename_rules.proofs.OccurrenceLemmas.{bare_unit}
 use Rattle.analysis.proofs.OneUnitLemmas.{bound_of_unit, unit_of_text}
 use Rattle.rename_rules.proofs.UnitLemmas.{unit_next}

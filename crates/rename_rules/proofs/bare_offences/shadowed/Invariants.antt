@@ -2,7 +2,7 @@ use Rattle.std.proofs.Common.{take}
 use Rattle.std.specs.List.{flat_map}
 use Rattle.cs_base.specs.declared.causes.Cause.TheVariants as cause
 use Rattle.analysis.specs.Analysis.{UnitAnalysis}
-use Rattle.rename_rules.specs.First.{standing, FirstThen}
+use Rattle.offences.specs.First.{standing, FirstThen}
 use Rattle.rename_rules.specs.Offences.{bare_places}
 use Rattle.rename_rules.proofs.bare_offences.shadowed.Given as goal
 

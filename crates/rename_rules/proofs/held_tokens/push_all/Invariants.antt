@@ -1,6 +1,6 @@
 use Rattle.std.proofs.Common.{◌≡◌, ◌++◌, take}
 use Rattle.std.specs.Prelude.{filter}
-use Rattle.rename_rules.specs.Tokens.{holds_member}
+use Rattle.offences.specs.Tokens.{holds_member}
 use Rattle.rename_rules.proofs.held_tokens.push_all.Given as goal
 
 abbrev pub invariant-loop-tok : goal.invariant-loop-tok

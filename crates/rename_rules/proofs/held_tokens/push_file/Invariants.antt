@@ -1,7 +1,7 @@
 use Rattle.std.proofs.Common.{◌≡◌, ◌++◌, take}
 use Rattle.std.specs.Prelude.{filter}
 use Rattle.cs_base.specs.Token.{Token, has_origins}
-use Rattle.rename_rules.specs.Tokens.{holds_member}
+use Rattle.offences.specs.Tokens.{holds_member}
 use Rattle.rename_rules.proofs.held_tokens.push_file.Given as goal
 
 abbrev pub invariant-loop-tok : goal.invariant-loop-tok

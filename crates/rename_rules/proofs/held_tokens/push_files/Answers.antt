@@ -2,7 +2,7 @@ use Rattle.std.proofs.Common.{◌++◌, length, ap, arith}
 use Rattle.analysis.specs.Analysed.{Analysed}
 use Rattle.std.specs.Prelude.{filter}
 use Rattle.analysis.specs.FileTokens.{table_tokens}
-use Rattle.rename_rules.specs.Tokens.{holds_member}
+use Rattle.offences.specs.Tokens.{holds_member}
 use Rattle.rename_rules.proofs.UnitLemmas.{held_files_more, held_files_all}
 use Rattle.rename_rules.proofs.held_tokens.push_files.Goals as goal
 

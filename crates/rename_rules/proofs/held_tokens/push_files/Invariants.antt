@@ -1,7 +1,7 @@
 use Rattle.std.proofs.Common.{◌≡◌, ◌++◌, drop}
 use Rattle.std.specs.Prelude.{filter}
 use Rattle.analysis.specs.FileTokens.{table_tokens}
-use Rattle.rename_rules.specs.Tokens.{holds_member}
+use Rattle.offences.specs.Tokens.{holds_member}
 use Rattle.rename_rules.proofs.held_tokens.push_files.Given as goal
 
 abbrev pub invariant-loop-file : goal.invariant-loop-file

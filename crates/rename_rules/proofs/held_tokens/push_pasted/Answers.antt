@@ -1,7 +1,8 @@
 use Rattle.std.proofs.Common.{length, ap, arith}
 use Rattle.analysis.specs.Analysed.{Analysed}
 use Rattle.analysis.specs.Analysis.{UnitAnalysis}
-use Rattle.rename_rules.specs.Tokens.{holds_member, pasted_tokens}
+use Rattle.rename_rules.specs.Tokens.{pasted_tokens}
+use Rattle.offences.specs.Tokens.{holds_member}
 use Rattle.std.proofs.lemmas.List.{take_all}
 use Rattle.analysis.proofs.OneUnitLemmas.{unit_of_text}
 use Rattle.rename_rules.proofs.UnitLemmas.{held_units_more}

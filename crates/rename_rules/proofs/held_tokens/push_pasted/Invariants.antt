@@ -2,7 +2,7 @@ use Rattle.std.proofs.Common.{◌≡◌, ◌++◌, take}
 use Rattle.std.specs.Prelude.{filter}
 use Rattle.std.specs.List.{flat_map}
 use Rattle.analysis.specs.Analysis.{UnitAnalysis}
-use Rattle.rename_rules.specs.Tokens.{holds_member}
+use Rattle.offences.specs.Tokens.{holds_member}
 use Rattle.rename_rules.proofs.held_tokens.push_pasted.Given as goal
 
 abbrev pub invariant-loop-unit : goal.invariant-loop-unit

@@ -1,6 +1,6 @@
 use Rattle.std.proofs.Common.{◌<◌, length, arith}
 use Rattle.rename_rules.specs.Tokens.{start_of}
-use Rattle.rename_rules.proofs.FirstLemmas.{then_none, then_all}
+use Rattle.offences.proofs.FirstLemmas.{then_none, then_all}
 use Rattle.rename_rules.proofs.UnitLemmas.{origin_next}
 use Rattle.rename_rules.proofs.member_offences.in_token.Goals as goal
 

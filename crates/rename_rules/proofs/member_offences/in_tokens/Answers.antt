@@ -1,4 +1,4 @@
-use Rattle.rename_rules.proofs.FirstLemmas.{then_none, then_next, then_all}
+use Rattle.offences.proofs.FirstLemmas.{then_none, then_next, then_all}
 use Rattle.rename_rules.specs.Tokens.{starts_in}
 use Rattle.rename_rules.proofs.member_offences.in_tokens.Goals as goal
 

@@ -1,6 +1,6 @@
 use Rattle.std.proofs.Common.{take}
 use Rattle.std.specs.List.{flat_map}
-use Rattle.rename_rules.specs.First.{standing, FirstThen}
+use Rattle.offences.specs.First.{standing, FirstThen}
 use Rattle.rename_rules.specs.Tokens.{starts_in}
 use Rattle.rename_rules.proofs.member_offences.in_tokens.Given as goal
 

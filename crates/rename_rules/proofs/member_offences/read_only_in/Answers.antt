@@ -1,4 +1,4 @@
-use Rattle.rename_rules.proofs.FirstLemmas.{then_none, then_next_or, then_all}
+use Rattle.offences.proofs.FirstLemmas.{then_none, then_next_or, then_all}
 use Rattle.cs_base.specs.declared.causes.Cause.TheVariants as cause
 use Rattle.rename_rules.specs.Offences.{read_only_place, read_only_places}
 use Rattle.rename_rules.proofs.member_offences.read_only_in.Goals as goal

@@ -4,7 +4,7 @@ use Rattle.cs_base.specs.declared.causes.Cause.TheVariants as cause
 use Rattle.analysis.specs.Analysis.{UnitAnalysis}
 use Rattle.rename_rules.specs.Offences.{stringized_places}
 use Rattle.rename_rules.specs.Tokens.{starts_in}
-use Rattle.rename_rules.proofs.FirstLemmas.{then_none, then_all}
+use Rattle.offences.proofs.FirstLemmas.{then_none, then_all}
 use Rattle.analysis.proofs.OneUnitLemmas.{unit_of_text}
 use Rattle.rename_rules.proofs.UnitLemmas.{unit_next}
 use Rattle.rename_rules.proofs.member_offences.stringized_in.Goals as goal

@@ -1,5 +1,5 @@
 use Rattle.rename_rules.specs.RenamingValue.{held}
-use Rattle.rename_rules.proofs.FirstLemmas.{then_none}
+use Rattle.offences.proofs.FirstLemmas.{then_none}
 use Rattle.rename_rules.proofs.OccurrenceLemmas.{new_told}
 use Rattle.rename_rules.proofs.occurrences.occurring_at.Goals as goal
 

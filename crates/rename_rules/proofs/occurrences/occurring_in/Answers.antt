@@ -1,7 +1,7 @@
 use Rattle.cs_base.specs.declared.causes.Cause.TheVariants as cause
 use Rattle.rename_rules.specs.Offences.{occurring_place}
 use Rattle.rename_rules.specs.RenamingValue.{held}
-use Rattle.rename_rules.proofs.FirstLemmas.{then_none, then_next, then_all}
+use Rattle.offences.proofs.FirstLemmas.{then_none, then_next, then_all}
 use Rattle.rename_rules.proofs.occurrences.occurring_in.Goals as goal
 
 pub loop-tok-init : goal.loop-tok-init

@@ -1,7 +1,7 @@
 use Rattle.std.proofs.Common.{take}
 use Rattle.std.specs.List.{flat_map}
 use Rattle.cs_base.specs.declared.causes.Cause.TheVariants as cause
-use Rattle.rename_rules.specs.First.{standing, FirstThen}
+use Rattle.offences.specs.First.{standing, FirstThen}
 use Rattle.rename_rules.specs.Offences.{occurring_place}
 use Rattle.rename_rules.specs.RenamingValue.{held}
 use Rattle.rename_rules.proofs.occurrences.occurring_in.Given as goal

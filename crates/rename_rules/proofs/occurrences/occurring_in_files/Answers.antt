@@ -1,8 +1,8 @@
 use Rattle.std.proofs.Common.{arith}
 use Rattle.std.specs.List.{flat_map}
 use Rattle.cs_base.specs.declared.causes.Cause.TheVariants as cause
-use Rattle.rename_rules.specs.First.{standing}
-use Rattle.rename_rules.specs.Tokens.{kept_tokens}
+use Rattle.offences.specs.First.{standing}
+use Rattle.offences.specs.Tokens.{kept_tokens}
 use Rattle.rename_rules.specs.Offences.{occurring_place}
 use Rattle.rename_rules.specs.RenamingValue.{held}
 use Rattle.rename_rules.proofs.UnitLemmas.{files_next, files_all}

@@ -1,11 +1,11 @@
 use Rattle.std.proofs.Common.{drop}
-use Rattle.rename_rules.specs.First.{standing, FirstThen}
+use Rattle.offences.specs.First.{standing, FirstThen}
 use Rattle.cs_base.specs.declared.causes.Cause.TheVariants as cause
 use Rattle.std.specs.List.{flat_map}
 use Rattle.std.specs.Prelude.{Option}
-use Rattle.rename_rules.specs.declared.offences.Offence.{Offence}
+use Rattle.offences.specs.declared.firsts.Offence.{Offence}
 use Rattle.rename_rules.specs.Offences.{occurring_place}
-use Rattle.rename_rules.specs.Tokens.{kept_tokens}
+use Rattle.offences.specs.Tokens.{kept_tokens}
 use Rattle.rename_rules.specs.RenamingValue.{held}
 use Rattle.rename_rules.proofs.occurrences.occurring_in_files.Given as goal
 

@@ -5,7 +5,7 @@ use Rattle.analysis.specs.Analysis.{UnitAnalysis}
 use Rattle.rename_rules.specs.Offences.{occurring_place}
 use Rattle.rename_rules.specs.Tokens.{pasted_tokens}
 use Rattle.rename_rules.specs.RenamingValue.{held}
-use Rattle.rename_rules.proofs.FirstLemmas.{then_none}
+use Rattle.offences.proofs.FirstLemmas.{then_none}
 use Rattle.analysis.proofs.OneUnitLemmas.{unit_of_text}
 use Rattle.rename_rules.proofs.UnitLemmas.{unit_tokens_next}
 use Rattle.rename_rules.proofs.occurrences.occurring_in_pasted.Goals as goal

@@ -3,7 +3,7 @@ use Rattle.std.specs.Prelude.{ℕ, List, min}
 use Rattle.std.specs.List.{flat_map}
 use Rattle.cs_base.specs.declared.causes.Cause.TheVariants as cause
 use Rattle.cs_base.specs.declared.positions.Part.{Part}
-use Rattle.rename_rules.specs.First.{standing}
+use Rattle.offences.specs.First.{standing}
 use Rattle.rename_rules.specs.Offences.{large_place}
 use Rattle.rename_rules.specs.Runs.{most_size, new_sizes, run_length, runs}
 use Rattle.rename_rules.proofs.RunLemmas.{apart_drop}

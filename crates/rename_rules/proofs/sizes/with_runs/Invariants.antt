@@ -2,8 +2,8 @@ use Rattle.std.proofs.Common.{◌≡◌, ◌+◌, ◌≤◌, length}
 use Rattle.std.specs.Prelude.{min, Option}
 use Rattle.std.specs.List.{flat_map}
 use Rattle.cs_base.specs.declared.causes.Cause.TheVariants as cause
-use Rattle.rename_rules.specs.declared.offences.Offence.{Offence}
-use Rattle.rename_rules.specs.First.{standing, FirstThen}
+use Rattle.offences.specs.declared.firsts.Offence.{Offence}
+use Rattle.offences.specs.First.{standing, FirstThen}
 use Rattle.rename_rules.specs.Offences.{large_place}
 use Rattle.rename_rules.specs.Runs.{most_size, new_sizes, runs, AreApart}
 use Rattle.rename_rules.proofs.sizes.with_runs.Given as goal

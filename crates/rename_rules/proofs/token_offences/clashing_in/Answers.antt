@@ -1,6 +1,6 @@
 use Rattle.std.proofs.Common.{◌∙◌}
 use Rattle.rename_rules.specs.RenamingValue.{held}
-use Rattle.rename_rules.proofs.FirstLemmas.{then_none}
+use Rattle.offences.proofs.FirstLemmas.{then_none}
 use Rattle.rename_rules.proofs.RespellingLemmas.{clash_told}
 use Rattle.rename_rules.proofs.token_offences.clashing_in.Goals as goal
 

@@ -2,7 +2,7 @@ use Rattle.std.proofs.Common.{◌≡◌, true, sym}
 use Rattle.std.specs.Prelude.{◌||◌}
 use Rattle.cs_base.specs.Reserved.{is_reserved_text}
 use Rattle.part_respell.specs.Respelled.{spelled}
-use Rattle.rename_rules.proofs.FirstLemmas.{then_none}
+use Rattle.offences.proofs.FirstLemmas.{then_none}
 use Rattle.rename_rules.proofs.token_offences.reserved_in.Goals as goal
 
 pub returns-then-is_reserved_in : goal.returns-then-is_reserved_in

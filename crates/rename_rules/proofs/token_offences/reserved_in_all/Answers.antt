@@ -1,4 +1,4 @@
-use Rattle.rename_rules.proofs.FirstLemmas.{then_none, then_next, then_all}
+use Rattle.offences.proofs.FirstLemmas.{then_none, then_next, then_all}
 use Rattle.cs_base.specs.declared.causes.Cause.TheVariants as cause
 use Rattle.rename_rules.specs.Offences.{reserved_place}
 use Rattle.rename_rules.proofs.token_offences.reserved_in_all.Goals as goal

@@ -1,7 +1,7 @@
 use Rattle.std.proofs.Common.{◌≡◌, ◌+◌, ◌-◌, ◌≤◌, ◌<◌, arith}
 use Rattle.std.specs.List.{flat_map, remove}
 use Rattle.cs_base.specs.declared.causes.Cause.TheVariants as cause
-use Rattle.rename_rules.proofs.FirstLemmas.{then_none}
+use Rattle.offences.proofs.FirstLemmas.{then_none}
 use Rattle.template_rules.specs.ScopeOffences.{dependence_place}
 use Rattle.template_rules.proofs.NumberLemmas.{then_number, then_numbers, then_no_numbers, then_first_number}
 use Rattle.template_rules.proofs.dependences.dependences_between.Goals as goal

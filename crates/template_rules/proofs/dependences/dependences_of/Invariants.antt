@@ -2,7 +2,7 @@ use Rattle.std.proofs.Common.{◌+◌, ◌-◌, length, take}
 use Rattle.std.specs.List.{flat_map}
 use Rattle.cs_base.specs.declared.causes.Cause.TheVariants as cause
 use Rattle.list_cuts.specs.Cuts.{numbers}
-use Rattle.rename_rules.specs.First.{standing, FirstThen}
+use Rattle.offences.specs.First.{standing, FirstThen}
 use Rattle.template_rules.specs.Lists.{separators}
 use Rattle.template_rules.specs.ScopeOffences.{dependence_in}
 use Rattle.template_rules.proofs.dependences.dependences_of.Given as goal

@@ -1,4 +1,4 @@
-use Rattle.rename_rules.specs.Class.{class_over}
+use Rattle.offences.specs.Class.{class_over}
 use Rattle.template_rules.proofs.FunctionLemmas.{AreBefore}
 use Rattle.template_rules.proofs.functions.named_functions.Given as goal
 

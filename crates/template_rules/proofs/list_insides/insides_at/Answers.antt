@@ -1,8 +1,8 @@
 use Rattle.std.proofs.Common.{sym, ◌∙◌}
 use Rattle.std.specs.List.{flat_map}
 use Rattle.cs_base.specs.declared.causes.Cause.TheVariants as cause
-use Rattle.rename_rules.specs.First.{standing}
-use Rattle.rename_rules.proofs.FirstLemmas.{then_both}
+use Rattle.offences.specs.First.{standing}
+use Rattle.offences.proofs.FirstLemmas.{then_both}
 use Rattle.template_rules.specs.MacroOffences.{line_number_place}
 use Rattle.template_rules.specs.ScopeOffences.{declaration_place}
 use Rattle.template_rules.proofs.PlanLemmas.{nil_from}

@@ -1,4 +1,4 @@
-use Rattle.rename_rules.proofs.FirstLemmas.{then_none}
+use Rattle.offences.proofs.FirstLemmas.{then_none}
 use Rattle.template_rules.specs.Marks.{call_marks}
 use Rattle.template_rules.proofs.StepLemmas.{more_next, more_all}
 use Rattle.template_rules.proofs.list_marks.at_calls.Goals as goal

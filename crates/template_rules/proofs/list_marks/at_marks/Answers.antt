@@ -1,6 +1,6 @@
 use Rattle.std.proofs.Common.{ap}
 use Rattle.std.specs.List.{flat_map}
-use Rattle.rename_rules.proofs.FirstLemmas.{then_none, then_both}
+use Rattle.offences.proofs.FirstLemmas.{then_none, then_both}
 use Rattle.template_rules.specs.Marks.{declarator_marks, call_marks, unit_marks}
 use Rattle.template_rules.proofs.StepLemmas.{more_next, more_all}
 use Rattle.template_rules.proofs.UnitLemmas.{marks_of, marks_told, units_first}

@@ -1,6 +1,6 @@
 use Rattle.std.proofs.Common.{take}
 use Rattle.std.specs.List.{flat_map}
-use Rattle.rename_rules.specs.First.{FirstThen}
+use Rattle.offences.specs.First.{FirstThen}
 use Rattle.template_rules.proofs.UnitLemmas.{marks_of}
 use Rattle.template_rules.proofs.list_marks.at_marks.Given as goal
 

@@ -1,7 +1,7 @@
 use Rattle.std.specs.Prelude.{◌++◌}
 use Rattle.cs_base.specs.declared.causes.Cause.TheVariants as cause
-use Rattle.rename_rules.specs.First.{standing}
-use Rattle.rename_rules.proofs.FirstLemmas.{then_both}
+use Rattle.offences.specs.First.{standing}
+use Rattle.offences.proofs.FirstLemmas.{then_both}
 use Rattle.template_rules.specs.Marks.{read_only_place, across_place, count_place}
 use Rattle.template_rules.proofs.list_marks.marks_at.Goals as goal
 

@@ -1,4 +1,4 @@
-use Rattle.rename_rules.proofs.FirstLemmas.{then_none}
+use Rattle.offences.proofs.FirstLemmas.{then_none}
 use Rattle.template_rules.proofs.list_marks.read_only_at.Goals as goal
 
 pub returns-in-None : goal.returns-in-None

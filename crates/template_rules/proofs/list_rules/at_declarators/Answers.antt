@@ -1,4 +1,4 @@
-use Rattle.rename_rules.proofs.FirstLemmas.{then_none}
+use Rattle.offences.proofs.FirstLemmas.{then_none}
 use Rattle.template_rules.specs.Offences.{declarator_offences}
 use Rattle.template_rules.proofs.StepLemmas.{more_next, more_all}
 use Rattle.template_rules.proofs.list_rules.at_declarators.Goals as goal

@@ -1,7 +1,7 @@
 use Rattle.std.proofs.Common.{◌≡◌, ap, sym, ◌∙◌}
 use Rattle.std.specs.List.{flat_map}
 use Rattle.std.proofs.lemmas.Option.{slice_get-get_or}
-use Rattle.rename_rules.proofs.FirstLemmas.{then_none, then_both}
+use Rattle.offences.proofs.FirstLemmas.{then_none, then_both}
 use Rattle.template_rules.specs.LineOffences.{odd_positions}
 use Rattle.template_rules.specs.Offences.{declarator_offences, call_offences, unit_lists}
 use Rattle.template_rules.proofs.StepLemmas.{more_next, more_all}

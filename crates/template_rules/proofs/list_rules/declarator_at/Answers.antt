@@ -1,6 +1,6 @@
 use Rattle.cs_base.specs.declared.causes.Cause.TheVariants as cause
-use Rattle.rename_rules.specs.First.{standing}
-use Rattle.rename_rules.proofs.FirstLemmas.{then_both, then_none}
+use Rattle.offences.specs.First.{standing}
+use Rattle.offences.proofs.FirstLemmas.{then_both, then_none}
 use Rattle.template_rules.specs.Offences.{list_offences}
 use Rattle.template_rules.specs.ScopeOffences.{dependence_places}
 use Rattle.template_rules.proofs.list_rules.declarator_at.Goals as goal

@@ -1,6 +1,6 @@
 use Rattle.cs_base.specs.declared.causes.Cause.TheVariants as cause
-use Rattle.rename_rules.specs.First.{standing}
-use Rattle.rename_rules.proofs.FirstLemmas.{then_both}
+use Rattle.offences.specs.First.{standing}
+use Rattle.offences.proofs.FirstLemmas.{then_both}
 use Rattle.template_rules.specs.LineOffences.{odd_places}
 use Rattle.template_rules.specs.MacroOffences.{macro_place}
 use Rattle.template_rules.proofs.list_rules.list_at.Goals as goal

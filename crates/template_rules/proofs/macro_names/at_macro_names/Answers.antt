@@ -1,8 +1,8 @@
 use Rattle.std.proofs.Common.{ap}
 use Rattle.std.specs.List.{flat_map}
-use Rattle.rename_rules.proofs.FirstLemmas.{then_none, then_both}
+use Rattle.offences.proofs.FirstLemmas.{then_none, then_both}
 use Rattle.cs_base.specs.declared.causes.Cause.TheVariants as cause
-use Rattle.rename_rules.specs.First.{standing}
+use Rattle.offences.specs.First.{standing}
 use Rattle.template_rules.specs.Insides.{unit_macro_names}
 use Rattle.template_rules.specs.MacroOffences.{replaced_place, pasted_place}
 use Rattle.template_rules.proofs.StepLemmas.{more_next, more_all}

@@ -1,4 +1,4 @@
-use Rattle.rename_rules.proofs.FirstLemmas.{then_none, then_next, then_all}
+use Rattle.offences.proofs.FirstLemmas.{then_none, then_next, then_all}
 use Rattle.cs_base.specs.declared.causes.Cause.TheVariants as cause
 use Rattle.template_rules.specs.MacroOffences.{pasted_place}
 use Rattle.template_rules.proofs.macro_names.at_pasted.Goals as goal

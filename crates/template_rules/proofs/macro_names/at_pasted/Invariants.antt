@@ -1,7 +1,7 @@
 use Rattle.std.proofs.Common.{take}
 use Rattle.std.specs.List.{flat_map}
 use Rattle.cs_base.specs.declared.causes.Cause.TheVariants as cause
-use Rattle.rename_rules.specs.First.{standing, FirstThen}
+use Rattle.offences.specs.First.{standing, FirstThen}
 use Rattle.template_rules.specs.MacroOffences.{pasted_place}
 use Rattle.template_rules.proofs.macro_names.at_pasted.Given as goal
 

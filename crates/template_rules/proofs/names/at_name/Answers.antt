@@ -1,6 +1,6 @@
 use Rattle.cs_base.specs.declared.causes.Cause.TheVariants as cause
-use Rattle.rename_rules.specs.First.{standing}
-use Rattle.rename_rules.proofs.FirstLemmas.{then_both}
+use Rattle.offences.specs.First.{standing}
+use Rattle.offences.proofs.FirstLemmas.{then_both}
 use Rattle.template_rules.specs.NameOffences.{no_prototype_place, value_place}
 use Rattle.template_rules.proofs.names.at_name.Goals as goal
 

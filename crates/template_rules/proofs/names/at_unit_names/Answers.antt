@@ -1,4 +1,4 @@
-use Rattle.rename_rules.proofs.FirstLemmas.{then_none}
+use Rattle.offences.proofs.FirstLemmas.{then_none}
 use Rattle.template_rules.specs.NameOffences.{name_offences}
 use Rattle.template_rules.proofs.StepLemmas.{more_next_or, more_all}
 use Rattle.template_rules.proofs.names.at_unit_names.Goals as goal

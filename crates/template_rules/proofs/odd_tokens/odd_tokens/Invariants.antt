@@ -1,6 +1,6 @@
 use Rattle.std.proofs.Common.{◌≡◌, ◌++◌, drop}
 use Rattle.std.specs.List.{flat_map}
-use Rattle.rename_rules.specs.Tokens.{kept_tokens}
+use Rattle.offences.specs.Tokens.{kept_tokens}
 use Rattle.template_rules.specs.LineOffences.{odd_position, odd_positions}
 use Rattle.template_rules.proofs.odd_tokens.odd_tokens.Given as goal
 

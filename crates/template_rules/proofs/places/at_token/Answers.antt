@@ -1,4 +1,4 @@
-use Rattle.rename_rules.proofs.FirstLemmas.{then_none}
+use Rattle.offences.proofs.FirstLemmas.{then_none}
 use Rattle.template_rules.proofs.places.at_token.Goals as goal
 
 pub returns-in-Some : goal.returns-in-Some

@@ -1,6 +1,6 @@
 use Rattle.std.proofs.Common.{None, ◌++◌}
-use Rattle.rename_rules.specs.First.{FirstThen, IsFirst}
-use Rattle.rename_rules.proofs.FirstLemmas.{then_both}
+use Rattle.offences.specs.First.{FirstThen, IsFirst}
+use Rattle.offences.proofs.FirstLemmas.{then_both}
 use Rattle.template_rules.specs.Insides.{all_insides, all_macro_names}
 use Rattle.template_rules.specs.Lists.{count_of}
 use Rattle.template_rules.specs.Marks.{all_marks}

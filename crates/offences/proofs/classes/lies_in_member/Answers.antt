@@ -1,6 +1,6 @@
 use Rattle.std.proofs.Common.{is_some, sym, ap}
-use Rattle.rename_rules.proofs.ClassLemmas.{over_none, over_other, over_member, part_apart}
-use Rattle.rename_rules.proofs.classes.lies_in_member.Goals as goal
+use Rattle.offences.proofs.ClassLemmas.{over_none, over_other, over_member, part_apart}
+use Rattle.offences.proofs.classes.lies_in_member.Goals as goal
 
 pub returns-then-has_number-clause-answer : goal.returns-then-has_number-clause-answer
 returns-then-has_number-clause-answer c =

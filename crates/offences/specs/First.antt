@@ -1,20 +1,16 @@
 -- The first offence against a renaming: that of the least place, and at one place that of the least number.
-use Rattle.std.specs.Prelude.{ℕ, ◌≡◌, Bool, Option, Some, None, List, [], ◌++◌, map, slice_get}
+use Rattle.std.specs.Prelude.{ℕ, ◌≡◌, Option, Some, None, List, [], ◌++◌, map, slice_get}
 use Rattle.std.specs.Cmp.Lexicographic.{slice_cmp}
 use Rattle.std.specs.Option.{option_map_or}
 use Rattle.std.specs.Ordering.{nat_cmp, ordering_then}
 use Rattle.std.specs.declared.cmp.Ordering.{Ordering}
 use Rattle.std.specs.declared.cmp.Ordering.TheVariants.{Less}
 use Rattle.cs_base.specs.declared.causes.Cause.{Cause}
-use Rattle.cs_base.specs.declared.causes.Cause.TheVariants as cause
-use Rattle.cs_base.specs.declared.positions.Part.{Part}
 use Rattle.cs_base.specs.declared.positions.Pos.{Pos}
 use Rattle.cs_base.specs.Order.{number_of}
 use Rattle.analysis.specs.Below.source_files.Files.{Table, lines_path}
 use Rattle.analysis.specs.Below.source_files.KeptFiles.{KeptValue, kept_at}
-use Rattle.analysis.specs.Analysis.{AnalysisValue}
-use Rattle.rename_rules.specs.declared.offences.Offence.{Offence}
-use Rattle.rename_rules.specs.Offences.{read_only_places, reserved_places, kept_string_places, header_places, no_identifier_places, occurring_places, clashing_places, too_large_places, shadowed_places}
+use Rattle.offences.specs.declared.firsts.Offence.{Offence}
 
 -- an offence: a position in a file, and what stands against the renaming there
 abbrev pub offence : Cause → Pos → Offence
@@ -35,27 +31,6 @@ offence_cmp table o p = ordering_then (position_cmp table o.at p.at) (nat_cmp (n
 -- the offences of a cause that stands at these places
 abbrev pub standing : Cause → List Pos → List Offence
 standing cause places = map (offence cause) places
-
--- Those at members and the tokens that hold them. `strings` says that strings which `#` makes may follow the renaming.
-unfoldable pub member_offences : AnalysisValue → List Part → List ℕ → Bool → List Offence
-member_offences a members name strings =
-    standing cause.ReadOnly (read_only_places a members)
-    ++ standing cause.Reserved (reserved_places a members name)
-    ++ standing cause.Stringized (kept_string_places a members strings)
-    ++ standing cause.HeaderName (header_places a members)
-    ++ standing cause.NotIdentifier (no_identifier_places a members)
-
--- those of new spellings among all others
-unfoldable pub spelling_offences : AnalysisValue → List Part → List ℕ → List Offence
-spelling_offences a members name =
-    standing cause.Occurs (occurring_places a members name)
-    ++ standing cause.Clash (clashing_places a members name)
-    ++ standing cause.TooLarge (too_large_places a members name)
-    ++ standing cause.ShadowedTypedef (shadowed_places a members)
-
--- all offences against a renaming, in no order
-abbrev pub offences_of : AnalysisValue → List Part → List ℕ → Bool → List Offence
-offences_of a members name strings = member_offences a members name strings ++ spelling_offences a members name
 
 -- the list has it
 abbrev pub IsAmong : {X : Type 0} → List X → X → Type 0

@@ -47,9 +47,9 @@ use Rattle.expansion_laws.proofs.PiecesLemmas.{glue_is, quoted_fails}
 use Rattle.unit_laws.proofs.DoneLemmas.{UnitRules}
 use Rattle.analysis.proofs.ProcessedLemmas.{text_told}
 use Rattle.cs_base.proofs.FileMapLemmas.{bytes_eq-same}
-use Rattle.rename_meaning.proofs.ListLemmas.{In, in_flat}
-use Rattle.rename_meaning.proofs.FileLemmas.{token_stands}
-use Rattle.rename_meaning.proofs.MemberLemmas.{file_token, span_is}
+use Rattle.edited_unit_laws.proofs.ListLemmas.{In, in_flat}
+use Rattle.edited_unit_laws.proofs.FileLemmas.{token_stands}
+use Rattle.edited_unit_laws.proofs.TableTokenLemmas.{file_token, span_is}
 
 -- ---- source files
 

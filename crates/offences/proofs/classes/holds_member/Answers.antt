@@ -1,6 +1,6 @@
 use Rattle.std.proofs.Common.{◌<◌, length, refl, arith, sym, true≢false, ◌∙◌}
-use Rattle.rename_rules.proofs.UnitLemmas.{origin_any, origin_none, origins_none}
-use Rattle.rename_rules.proofs.classes.holds_member.Goals as goal
+use Rattle.offences.proofs.OriginLemmas.{origin_any, origin_none, origins_none}
+use Rattle.offences.proofs.classes.holds_member.Goals as goal
 
 pub loop-k-init : goal.loop-k-init
 loop-k-init c = (refl, λ p held. absurd (true≢false (sym held ∙ c.no_part-apart.ensures p)))

@@ -1,6 +1,6 @@
-use Rattle.rename_rules.specs.First.{offence}
-use Rattle.rename_rules.proofs.FirstLemmas.{first_one, first_now, first_still}
-use Rattle.rename_rules.proofs.offences.first_with.Goals as goal
+use Rattle.offences.specs.First.{offence}
+use Rattle.offences.proofs.FirstLemmas.{first_one, first_now, first_still}
+use Rattle.offences.proofs.firsts.first_with.Goals as goal
 
 pub returns-in-None : goal.returns-in-None
 returns-in-None c = record { goes_on = λ os is. first_one c.args.a.now.value.table os (offence c.args.cause c.args.at) (rw c.in-None.is at is) }

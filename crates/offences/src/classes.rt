@@ -5,8 +5,8 @@ ghost use Rattle.cs_base.specs.Token.{origin_at};
 ghost use Rattle.eclass_map.specs.ClassTable.{class_in};
 ghost use Rattle.cs_base.specs.declared.positions.Pos.{Pos};
 ghost use Rattle.eclass_map.specs.Positions.{holds};
-ghost use Rattle.rename_rules.specs.Class.{class_over, IsApart, IsClass};
-ghost use Rattle.rename_rules.specs.Tokens.{holds_member, member_of};
+ghost use Rattle.offences.specs.Class.{class_over, IsApart, IsClass};
+ghost use Rattle.offences.specs.Tokens.{holds_member, member_of};
 ghost use Rattle.cs_base.specs.declared.positions.Part.{Part as Member};
 ghost use Rattle.analysis.specs.Parts.{AreMembers};
 
@@ -26,7 +26,7 @@ pub struct Class<'a> {
 impl<'a> Model for Class<'a> {
     ghost use Rattle.std.specs.Coded.{codes};
     ghost use Rattle.analysis.specs.Below.c99_tree.TreeCode.{node_code};
-    ghost use Rattle.rename_rules.specs.Class.{ClassValue, class_over, IsClass};
+    ghost use Rattle.offences.specs.Class.{ClassValue, class_over, IsClass};
 
     ghost Value = { ClassValue };
 
@@ -99,7 +99,7 @@ pub fn member_at(class: &Class<'_>, tok: &Tok, k: u32) -> Option<Part>
 }
 
 /// How many characters a token has.
-pub(crate) fn length(tok: &Tok) -> u32
+pub fn length(tok: &Tok) -> u32
     ensures { result ≡ length tok.now.origins }
 {
     tok.text().len() as u32

@@ -54,9 +54,9 @@ use Rattle.analysis.specs.Analysis.{UnitAnalysis, UnitsValue, AnalysisValue, ana
 use Rattle.analysis.specs.FileTokens.{file_tokens, numbers_brought, number_of_event, number_for, table_tokens}
 use Rattle.analysis.specs.Texts.{UnitFault, unit_fault, unit_with}
 use Rattle.analysis.proofs.NamingLemmas.{split_at, in_right}
-use Rattle.rename_meaning.proofs.ListLemmas.{In, in_flat}
-use Rattle.rename_meaning.proofs.MemberLemmas.{file_token}
-use Rattle.rename_meaning.proofs.TracedLemmas.{source_of_kept, Traced, line_told, answer_told, line_in, answer_in, rules_traced}
+use Rattle.edited_unit_laws.proofs.ListLemmas.{In, in_flat}
+use Rattle.edited_unit_laws.proofs.TableTokenLemmas.{file_token}
+use Rattle.edited_unit_laws.proofs.TracedLemmas.{source_of_kept, Traced, line_told, answer_told, line_in, answer_in, rules_traced}
 
 -- ---- the table grows
 

@@ -13,7 +13,7 @@ use Rattle.analysis.specs.Classes.{AreItsClasses}
 use Rattle.analysis.specs.Parts.{IsCharacter, IsPart}
 use Rattle.analysis.proofs.ClassLemmas.{walked_member, member_walked}
 use Rattle.analysis.proofs.PartLemmas.{held_character, part_once}
-use Rattle.rename_rules.specs.Class.{IsApart, IsClass}
+use Rattle.offences.specs.Class.{IsApart, IsClass}
 
 -- ---- members by the number of their class
 

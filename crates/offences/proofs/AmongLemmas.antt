@@ -1,7 +1,7 @@
 -- What stands in lists.
 use Rattle.std.proofs.Common.{◌≡◌, zero, suc, List, [], ◌∷◌, ◌++◌, inl, inr, refl}
 use Rattle.std.specs.Prelude.{◌⊎◌}
-use Rattle.rename_rules.specs.First.{IsAmong}
+use Rattle.offences.specs.First.{IsAmong}
 
 pub either_among : {X : Type 0} (xs : List X) (y x : X) → IsAmong (xs ++ y ∷ []) x → IsAmong xs x ⊎ (x ≡ y)
 either_among [] y x (zero, at) = inr (cc)

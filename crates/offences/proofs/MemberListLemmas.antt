@@ -9,7 +9,7 @@ use Rattle.std.specs.declared.cmp.Ordering.{Ordering}
 use Rattle.std.specs.declared.cmp.Ordering.TheVariants.{Less}
 use Rattle.std.proofs.lemmas.Option.{none-some, same_Some}
 use Rattle.cs_base.specs.declared.positions.Part.{Part}
-use Rattle.rename_rules.specs.First.{IsAmong}
+use Rattle.offences.specs.First.{IsAmong}
 use Rattle.analysis.specs.Analysis.{AnalysisValue}
 use Rattle.analysis.specs.Parts.{AreMembers, part_cmp}
 use Rattle.analysis.proofs.ListingLemmas.{part_cmp-total}

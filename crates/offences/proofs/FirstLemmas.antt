@@ -9,10 +9,10 @@ use Rattle.cs_base.specs.declared.positions.Pos.{Pos}
 use Rattle.std.specs.declared.cmp.Ordering.TheVariants.{Less}
 use Rattle.std.proofs.lemmas.Cmp.{then_total, on_total, nat_list_cmp_total, nat_cmp_total, tied_itself}
 use Rattle.analysis.specs.Below.source_files.Files.{Table}
-use Rattle.rename_rules.specs.declared.offences.Offence.{Offence}
+use Rattle.offences.specs.declared.firsts.Offence.{Offence}
 use Rattle.cs_base.specs.Order.{number_of}
-use Rattle.rename_rules.specs.First.{offence, offence_cmp, path_of, standing, IsAmong, IsFirst, FirstThen}
-use Rattle.rename_rules.proofs.AmongLemmas.{either_among, still_among, now_among}
+use Rattle.offences.specs.First.{offence, offence_cmp, path_of, standing, IsAmong, IsFirst, FirstThen}
+use Rattle.offences.proofs.AmongLemmas.{either_among, still_among, now_among}
 
 offence_cmp-total : (table : Table) → IsTotalOrder (offence_cmp table)
 offence_cmp-total table =

@@ -1,7 +1,7 @@
 // Offences against a renaming, and the first of them.
 ghost use Rattle.std.specs.Prelude.{◌≡◌, ◌∷◌, [], MatchBool};
 ghost use Rattle.std.specs.declared.cmp.Ordering.TheVariants.{Less};
-ghost use Rattle.rename_rules.specs.First.{offence, offence_cmp, path_of, position_cmp, FirstThen};
+ghost use Rattle.offences.specs.First.{offence, offence_cmp, path_of, position_cmp, FirstThen};
 
 use analysis::Analysis;
 use cs_base::{Cause, Pos};

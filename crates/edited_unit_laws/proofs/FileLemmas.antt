@@ -12,7 +12,7 @@ use Rattle.lexer.specs.Places.{pos, origins_from}
 use Rattle.lexer.specs.Spelling.{is_identifier_text, is_number_text, is_char_text, is_string_text, is_punctuator_text, is_header_text, kind_of, kind_in}
 use Rattle.line_shape.specs.Signs.{is_identifier, is_punctuator, is_name, is_hash}
 use Rattle.lexer.specs.Tokens.{Found, kind_or_other, is_hash_text, comment_end, comment_or_open, token_piece, piece_of, expects_header, piece_at, piece_length, leaves_gap, line_front_after, found_in, found_from, found_of, tokens_in, tokens_of}
-use Rattle.rename_meaning.proofs.ListLemmas.{In, AllOf, all_at}
+use Rattle.edited_unit_laws.proofs.ListLemmas.{In, AllOf, all_at}
 
 -- the token stands in the file, has the origins of its characters there, and is of the kind of its spelling
 pub record StandsIn (file : ℕ) (t : Token) : Type 0 where

@@ -1,6 +1,6 @@
 use Rattle.std.proofs.Common.{sym}
-use Rattle.rename_rules.proofs.ClassLemmas.{over_none, over_other, over_member}
-use Rattle.rename_rules.proofs.classes.member_over.Goals as goal
+use Rattle.offences.proofs.ClassLemmas.{over_none, over_other, over_member}
+use Rattle.offences.proofs.classes.member_over.Goals as goal
 
 pub returns-in-None : goal.returns-in-None
 returns-in-None c =

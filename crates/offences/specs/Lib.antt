@@ -1,0 +1,5 @@
+-- What the public contracts rest on.
+pub mod Tokens
+pub mod Class
+pub mod First
+pub mod Answers
