@@ -1,7 +1,5 @@
 -- One line of a batch: what it leaves, over all files that have its analysis.
-use Rattle.std.proofs.Common.{◌≡◌, ◌++◌, ℕ, Bool, true, false, ◌||◌, List, Option, None, Some, Ok, Err, refl, sym, subst, ◌∙◌}
-use Rattle.std.specs.Prelude.{IfSome}
-use Rattle.std.proofs.lemmas.Option.{none-some, same_Some}
+use Rattle.std.proofs.Common.{◌≡◌, ◌++◌, ℕ, Bool, true, false, ◌||◌, List, Some, Ok, Err, refl, sym, subst, ◌∙◌}
 use Rattle.cs_base.specs.declared.positions.Part.{Part}
 use Rattle.cs_base.specs.Edit.{Edit, with_edits, IsKept}
 use Rattle.cs_base.specs.Outside.{FileMap}
@@ -14,14 +12,11 @@ use Rattle.analysis.specs.Naming.{Names}
 use Rattle.kept_analysis.specs.Following.{IsRenamedIn}
 use Rattle.renamed.specs.Renamed.{renamed_analysis, renaming_of}
 use Rattle.part_respell.specs.Respelled.{respelled}
-use Rattle.rename_rules.specs.Renaming.{Refusal, bad_name, no_name, refused}
-use Rattle.rename_plan.specs.Refusals.{refusal_of}
-use Rattle.rename_plan.specs.declared.refusals.RenameRefusal.{RenameRefusal}
-use Rattle.rename_plan.specs.declared.refusals.RenameRefusal.TheVariants.{BadName, NoName, Offence, Memory}
+use Rattle.offences.specs.declared.refusals.Refusal.{Refusal}
 use Rattle.batch_run.specs.declared.stepping.Batching.{Batching}
 use Rattle.batch_run.specs.Batch.{plan_text}
 use Rattle.batch_run.specs.Renamed.{KeepsLine}
-use Rattle.batch_run.specs.Stepping.{IsOver, IsAnswered, TellsRefusal, Steps}
+use Rattle.batch_run.specs.Stepping.{IsOver, IsAnswered, Steps}
 use Rattle.batch_run.proofs.RenamedLemmas.{Accepted, accepted, IsPlanned, followed_is, renamed_analysis_there, line_is_kept}
 
 or_false : (b : Bool) → b ≡ (b || false)
@@ -71,21 +66,3 @@ refused_steps ws q refusal old s answered text_is refused_is edits_are stays = r
       subst (λ (es : List Edit). IsOver ws files es s.analysis.value) (sym edits_are)
       (subst (λ (b : AnalysisValue). IsOver ws files old.edits b) (sym stays) over);
 }
-
--- ---- a refusal that is told
-
-pub record IsTold (e : RenameRefusal) (old new : List ℕ) : Type 0 where
-  pub refusal : Refusal
-  pub is : refusal_of e ≡ Some refusal
-  pub text : new ≡ old ++ plan_text (Err refusal)
-
-pub told : (e : RenameRefusal) (old new : List ℕ) → TellsRefusal e old new → IsTold e old new
-told BadName old new h = record { refusal = bad_name; is = refl; text = h }
-told NoName old new h = record { refusal = no_name; is = refl; text = h }
-told (Offence place cause) old new h = record { refusal = refused place cause; is = refl; text = h }
-told Memory old new h = absurd h
-
--- what is so of the refusal that an answer names
-pub named : (o : Option Refusal) (refusal : Refusal) (P : Refusal → Type 0) → o ≡ Some refusal → IfSome o P → P refusal
-named None refusal P is h = absurd (none-some refusal is)
-named (Some r) refusal P is h = subst P (same_Some r refusal is) h

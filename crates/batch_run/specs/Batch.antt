@@ -8,7 +8,9 @@ use Rattle.edited_files.specs.Edited.{with_each}
 use Rattle.ws_file.specs.Workspace.{WorkspaceValue}
 use Rattle.analysis.specs.Below.source_files.Files.{source_of}
 use Rattle.analysis.specs.Analysis.{AnalysisValue, analysis_of}
-use Rattle.rename_rules.specs.Renaming.{Refusal, bad_name, no_name, refused, IsRenaming}
+use Rattle.offences.specs.declared.refusals.Refusal.{Refusal}
+use Rattle.offences.specs.declared.refusals.Refusal.TheVariants.{BadName, NoName, NotAFunction, BadOrder, Offence}
+use Rattle.rename_rules.specs.Renaming.{IsRenaming}
 
 -- the answer to a line: the edits of its renaming, or why it is refused
 abbrev pub Plan : Type 0
@@ -37,12 +39,18 @@ IsBatch ws files edits (q ∷ lines) (plan ∷ plans) =
 IsBatch ws files edits [] (plan ∷ plans) = ⊥
 IsBatch ws files edits (q ∷ lines) [] = ⊥
 
+-- the message of a refusal
+abbrev pub refusal_line : Refusal → List ℕ
+refusal_line BadName = refused_line (codes "bad name")
+refusal_line NoName = refused_line (codes "no name")
+refusal_line NotAFunction = refused_line (codes "not a function")
+refusal_line BadOrder = refused_line (codes "bad order")
+refusal_line (Offence place cause) = offence_line place cause
+
 -- what is written of a line: a line for each file that it edits, or the message of its refusal
 abbrev pub plan_text : Plan → List ℕ
 plan_text (Ok new) = edited_lines new
-plan_text (Err bad_name) = refused_line (codes "bad name")
-plan_text (Err no_name) = refused_line (codes "no name")
-plan_text (Err (refused place cause)) = offence_line place cause
+plan_text (Err refusal) = refusal_line refusal
 
 -- a line that is refused
 abbrev pub is_refused : Plan → Bool

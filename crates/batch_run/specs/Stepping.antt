@@ -7,9 +7,8 @@ use Rattle.batch_run.specs.Line.{LineValue}
 use Rattle.ws_file.specs.Workspace.{WorkspaceValue}
 use Rattle.analysis.specs.Below.source_files.Files.{source_of}
 use Rattle.analysis.specs.Analysis.{AnalysisValue, analysis_of}
-use Rattle.rename_plan.specs.declared.refusals.RenameRefusal.{RenameRefusal}
-use Rattle.rename_plan.specs.declared.refusals.RenameRefusal.TheVariants.{BadName, NoName, Offence, Memory}
-use Rattle.rename_rules.specs.Renaming.{Refusal, bad_name, no_name, refused, IsRenaming}
+use Rattle.offences.specs.declared.refusals.Refusal.{Refusal}
+use Rattle.rename_rules.specs.Renaming.{IsRenaming}
 use Rattle.batch_run.specs.declared.stepping.Batching.{Batching}
 use Rattle.batch_run.specs.Batch.{Plan, IsLine, IsBatch, after, after_each, plan_text, is_refused}
 use Rattle.batch_run.specs.Renamed.{KeepsLine, KeepsLines}
@@ -29,13 +28,6 @@ IsReady ws s = (files : FileMap) × AreOf ws s files
 -- the answer to a line there
 abbrev pub IsAnswered : Batching → LineValue → Result (List Edit) Refusal → Type 0
 IsAnswered s q answer = IsRenaming s.analysis.value q.path q.line q.column q.name q.strings answer
-
--- What a refusal adds to the text that tells the lines. Want of memory tells nothing.
-abbrev pub TellsRefusal : RenameRefusal → List ℕ → List ℕ → Type 0
-TellsRefusal BadName old new = new ≡ old ++ plan_text (Err bad_name)
-TellsRefusal NoName old new = new ≡ old ++ plan_text (Err no_name)
-TellsRefusal (Offence place cause) old new = new ≡ old ++ plan_text (Err (refused place cause))
-TellsRefusal Memory old new = ⊥
 
 -- What a line makes of a batch, if this is its answer.
 pub record Steps (ws : WorkspaceValue) (q : LineValue) (plan : Plan) (old new : Batching) : Type 0 where

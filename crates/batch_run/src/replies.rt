@@ -1,14 +1,13 @@
 // What is written of the lines of a batch.
-ghost use Rattle.std.specs.Prelude.{◌≡◌, ◌++◌, Ok, OnOk, map, flat_map};
+ghost use Rattle.std.specs.Prelude.{◌≡◌, ◌++◌, Err, Ok, OnOk, map, flat_map};
 ghost use Rattle.cs_base.specs.Edit.{IsKept};
 ghost use Rattle.command_words.specs.Message.{message, offence_line, place_pieces, refused_pieces};
 ghost use Rattle.batch_run.specs.Batch.{plan_text};
-ghost use Rattle.batch_run.specs.Stepping.{TellsRefusal};
 
 use command_words::edited_text;
 use cs_base::{Cause, Edits, Memory, Place};
 use itoa::Buffer;
-use rename_plan::RenameRefusal;
+use offences::Refusal;
 use std::alloc::Global;
 
 /// Adds the lines of an accepted rename, one for each file.
@@ -22,14 +21,15 @@ pub fn push_edits(alloc: Global, text: &mut Vec<u8>, edits: &Edits) -> Result<()
 }
 
 /// Adds the message of a refused one.
-pub fn push_refusal(text: &mut Vec<u8>, refusal: &RenameRefusal) -> Result<(), Memory>
-    ensures { OnOk result (TellsRefusal refusal.now text.old.items text.new.items) }
+pub fn push_refusal(text: &mut Vec<u8>, refusal: &Refusal) -> Result<(), Memory>
+    ensures { OnOk result (text.new.items ≡ text.old.items ++ plan_text (Err refusal.now)) }
 {
     match refusal {
-        RenameRefusal::BadName => push_message(text, &[b"refused: ", b"bad name"]),
-        RenameRefusal::NoName => push_message(text, &[b"refused: ", b"no name"]),
-        RenameRefusal::Offence { place, cause } => push_offence(text, place, *cause),
-        RenameRefusal::Memory => Err(Memory),
+        Refusal::BadName => push_message(text, &[b"refused: ", b"bad name"]),
+        Refusal::NoName => push_message(text, &[b"refused: ", b"no name"]),
+        Refusal::NotAFunction => push_message(text, &[b"refused: ", b"not a function"]),
+        Refusal::BadOrder => push_message(text, &[b"refused: ", b"bad order"]),
+        Refusal::Offence { place, cause } => push_offence(text, place, *cause),
     }
 }
 

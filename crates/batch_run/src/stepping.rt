@@ -1,7 +1,6 @@
 // One line of a batch.
-ghost use Rattle.std.specs.Prelude.{Err, IfOk, Ok, Some, IfSome};
+ghost use Rattle.std.specs.Prelude.{Err, IfOk, Ok, Some};
 ghost use Rattle.rename_rules.specs.Renaming.{IsRenaming};
-ghost use Rattle.rename_plan.specs.Refusals.{refusal_of};
 ghost use Rattle.batch_run.specs.Batch.{Plan};
 ghost use Rattle.batch_run.specs.Stepping.{IsAnswered, IsReady, Steps};
 
@@ -11,7 +10,8 @@ use analysis::Analysis;
 use cs_base::{Edits, Memory};
 use edited_files::TextEdits;
 use kept_analysis::advance;
-use rename_plan::{RenameRefusal, plan_rename};
+use offences::{PlanFault, Refusal};
+use rename_plan::plan_rename;
 use std::alloc::Global;
 use ws_file::Workspace;
 
@@ -45,7 +45,8 @@ pub fn run_line(
         line.strings(),
     ) {
         Ok(new) => accept_line(alloc, ws, line, &new, state),
-        Err(refusal) => refuse_line(ws, line, &refusal, state),
+        Err(PlanFault::Refused(refusal)) => refuse_line(ws, line, &refusal, state),
+        Err(PlanFault::Memory) => Err(Memory),
     }
 }
 
@@ -94,10 +95,10 @@ fn accept_line(
 fn refuse_line(
     ws: &Workspace,
     line: &BatchLine,
-    refusal: &RenameRefusal,
+    refusal: &Refusal,
     state: Batching,
 ) -> Result<Batching, Memory>
-    requires { IfSome (refusal_of refusal.now) (λ r. IsAnswered state line.now (Err r)) }
+    requires { IsAnswered state line.now (Err refusal.now) }
     ensures { IfOk result (λ now. (plan : Plan) × Steps ws.now line.now plan state now) }
 {
     let mut state = state;

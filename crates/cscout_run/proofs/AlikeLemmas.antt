@@ -16,7 +16,8 @@ use Rattle.analysis.specs.Parts.{part_cmp}
 use Rattle.analysis.proofs.ListingLemmas.{part_cmp-total}
 use Rattle.offences.specs.First.{IsAmong}
 use Rattle.rename_rules.specs.Offences.{offences_of}
-use Rattle.rename_rules.specs.Renaming.{Refusal, IsRenamed, IsClassRenamed, IsNamedRenamed, IsRenaming}
+use Rattle.offences.specs.declared.refusals.Refusal.{Refusal}
+use Rattle.rename_rules.specs.Renaming.{IsRenamed, IsClassRenamed, IsNamedRenamed, IsRenaming}
 use Rattle.analysis.proofs.PartLemmas.{part_once}
 use Rattle.offences.proofs.MemberListLemmas.{AreIn, one_list, same_lists}
 use Rattle.rename_meaning.proofs.RefusalLemmas.{refusals_are_one}

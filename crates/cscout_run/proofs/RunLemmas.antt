@@ -25,7 +25,7 @@ use Rattle.cscout_run.specs.declared.status.Status.TheVariants.{Done, Refused, U
 use Rattle.cscout_run.specs.declared.stops.Stop.{Stop}
 use Rattle.cscout_run.specs.declared.stops.Stop.TheVariants as stop
 use Rattle.command_words.specs.Request.{RequestValue, RenameValue, TemplateValue, ClassValue, FindValue, help_asked, version_asked, renaming_asked, template_asked, tokens_asked, skipped_asked, class_asked, unused_asked, includes_asked, calls_asked, find_asked, batch_asked, asked, generated_asked}
-use Rattle.cscout_run.specs.Answer.{Answer, IsAnswer, IsAnswerTo, IsRequestAnswer, IsClassAnswer, IsListAnswer, IsCallsAnswer, IsFindAnswer, IsFindReport, IsRenameAnswer, IsTemplateAnswer, IsOverWorkspace, IsBatchAnswer, answer_of, batch_at, class_answer, ready_status, renaming_answer, shown, stopped, workspace_at, IsSizeAnswer, size_answer, template_answer}
+use Rattle.cscout_run.specs.Answer.{Answer, IsAnswer, IsAnswerTo, IsRequestAnswer, IsClassAnswer, IsListAnswer, IsCallsAnswer, IsFindAnswer, IsFindReport, IsRenameAnswer, IsTemplateAnswer, IsOverWorkspace, IsBatchAnswer, answer_of, batch_at, class_answer, edit_answer, ready_status, shown, stopped, workspace_at, IsSizeAnswer, size_answer}
 use Rattle.cscout_run.proofs.TemplateLemmas.{templates_once}
 use Rattle.command_words.specs.Message.{usage_line}
 use Rattle.cscout_run.specs.Outcome.{World, told_in, GoesOn, StatusIs, HasCauses, IsComplete, IsDone, NoneRose, ShowsAnswer, Tells, FailedPut, Unmoved}
@@ -137,15 +137,15 @@ module _ (files : FileMap) (w : WorkspaceValue) (is_ws : IsWorkspace w) where
   rename-alike : (q : RenameValue) (analysed : Result AnalysisValue UnitFault) (a b : Answer) → analysis_of (source_of files) w ≡ analysed
       → IsRenameAnswer q analysed a → IsRenameAnswer q analysed b → a ≡ b
   rename-alike q (Ok value) a b is p p' =
-      same-answer (renaming_answer p.0) a b p.2
-      (ap renaming_answer (renamings_once (source_of files) w value is_ws is q.path q.line q.column q.name q.strings p.0 p'.0 p.1 p'.1) ∙ p'.2)
+      same-answer (edit_answer p.0) a b p.2
+      (ap edit_answer (renamings_once (source_of files) w value is_ws is q.path q.line q.column q.name q.strings p.0 p'.0 p.1 p'.1) ∙ p'.2)
   rename-alike q (Err fault) a b is p p' = same-answer _ a b p p'
 
   template-alike : (q : TemplateValue) (analysed : Result AnalysisValue UnitFault) (a b : Answer) → analysis_of (source_of files) w ≡ analysed
       → IsTemplateAnswer q analysed a → IsTemplateAnswer q analysed b → a ≡ b
   template-alike q (Ok value) a b is p p' =
-      same-answer (template_answer p.0) a b p.2
-      (ap template_answer (templates_once (source_of files) w value is_ws is q.path q.line q.column q.order p.0 p'.0 p.1 p'.1) ∙ p'.2)
+      same-answer (edit_answer p.0) a b p.2
+      (ap edit_answer (templates_once (source_of files) w value is_ws is q.path q.line q.column q.order p.0 p'.0 p.1 p'.1) ∙ p'.2)
   template-alike q (Err fault) a b is p p' = same-answer _ a b p p'
 
   size-alike : (n : ℕ) (analysed : Result AnalysisValue UnitFault) (a b : Answer) → analysis_of (source_of files) w ≡ analysed

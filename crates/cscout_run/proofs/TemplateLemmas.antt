@@ -14,13 +14,15 @@ use Rattle.offences.specs.declared.firsts.Offence.{Offence as AnOffence}
 use Rattle.template_rules.specs.Functions.{has_function}
 use Rattle.template_rules.specs.Lists.{count_of}
 use Rattle.template_rules.specs.Offences.{offences_of}
-use Rattle.template_rules.specs.Refusals.{refusal_of}
-use Rattle.template_rules.specs.Template.{Refusal, no_name, not_a_function, bad_order, refused, IsReordered, IsOrdered, IsClassOrdered, IsNamedOrdered, IsTemplate}
-use Rattle.template_rules.specs.declared.refusals.TemplateRefusal.{TemplateRefusal}
-use Rattle.template_rules.specs.declared.refusals.TemplateRefusal.TheVariants.{NoName, NotAFunction, BadOrder, Offence, Memory}
+use Rattle.offences.specs.declared.refusals.PlanFault.{PlanFault}
+use Rattle.offences.specs.declared.refusals.PlanFault.TheVariants.{Refused, Memory}
+use Rattle.offences.specs.declared.refusals.Refusal.{Refusal}
+use Rattle.offences.specs.declared.refusals.Refusal.TheVariants.{BadName, NoName, NotAFunction, BadOrder, Offence}
+use Rattle.offences.specs.Refusals.{refusal_of}
+use Rattle.template_rules.specs.Template.{IsReordered, IsOrdered, IsClassOrdered, IsNamedOrdered, IsTemplate}
 use Rattle.command_words.specs.Request.{TemplateValue}
 use Rattle.cscout_run.specs.Answer.{IsTemplateAnswer}
-use Rattle.cscout_run.specs.Steps.{template_stop}
+use Rattle.cscout_run.specs.Steps.{stop_for}
 use Rattle.cscout_run.specs.Stopping.{Stops}
 use Rattle.cs_base.proofs.CauseLemmas.{one_cause}
 use Rattle.offences.proofs.MemberListLemmas.{one_list}
@@ -28,13 +30,14 @@ use Rattle.rename_meaning.proofs.RefusalLemmas.{firsts_are_tied}
 use Rattle.cscout_run.proofs.AlikeLemmas.{one_named, none_stands}
 
 -- a refusal stops with its line
-pub template_stops : (ws : List ℕ) (q : TemplateValue) (value : AnalysisValue) (refusal : TemplateRefusal)
-    → IfSome (refusal_of refusal) (λ r. IsTemplate value q.path q.line q.column q.order (Err r))
-    → Stops ws (IsTemplateAnswer q (Ok value)) (template_stop refusal)
-template_stops ws q value NoName is = (Err no_name, is, refl)
-template_stops ws q value NotAFunction is = (Err not_a_function, is, refl)
-template_stops ws q value BadOrder is = (Err bad_order, is, refl)
-template_stops ws q value (Offence place cause) is = (Err (refused place cause), is, refl)
+pub template_stops : (ws : List ℕ) (q : TemplateValue) (value : AnalysisValue) (fault : PlanFault)
+    → IfSome (refusal_of fault) (λ r. IsTemplate value q.path q.line q.column q.order (Err r))
+    → Stops ws (IsTemplateAnswer q (Ok value)) (stop_for fault)
+template_stops ws q value (Refused BadName) is = (Err BadName, is, refl)
+template_stops ws q value (Refused NoName) is = (Err NoName, is, refl)
+template_stops ws q value (Refused NotAFunction) is = (Err NotAFunction, is, refl)
+template_stops ws q value (Refused BadOrder) is = (Err BadOrder, is, refl)
+template_stops ws q value (Refused (Offence place cause)) is = (Err (Offence place cause), is, refl)
 template_stops ws q value Memory is = tt
 
 -- ---- two answers
@@ -50,7 +53,7 @@ module _ (source : Source) (ws : WorkspaceValue) (a : AnalysisValue) (is_ws : Is
       let both = firsts_are_tied source ws a all p.0 q.0 is_ws analysed p.1 q.1 in
       let cause_is : p.0.cause ≡ q.0.cause = one_cause p.0.cause q.0.cause both.1 in
       ap (λ (refusal : Refusal). Err refusal)
-      (p.2 ∙ (ap (λ (z : Place). refused z p.0.cause) both.0 ∙ (ap (λ (c : Cause). refused (place_at a.table q.0.at) c) cause_is ∙ sym q.2)))
+      (p.2 ∙ (ap (λ (z : Place). Offence z p.0.cause) both.0 ∙ (ap (λ (c : Cause). Offence (place_at a.table q.0.at) c) cause_is ∙ sym q.2)))
 
   ordered_once : (members : List Part) (order : List ℕ) (r s : Result (List Edit) Refusal) (some good : Bool) → has_function members a ≡ some
       → is_order (count_of a members) order ≡ good → IsOrdered a members order r → IsOrdered a members order s → r ≡ s

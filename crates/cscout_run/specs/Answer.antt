@@ -24,17 +24,17 @@ use Rattle.query_words.specs.Reading.{parsed}
 use Rattle.query_words.specs.declared.faults.QueryFault.{QueryFault}
 use Rattle.query_words.specs.declared.faults.QueryFault.TheVariants.{Bad, Deep}
 use Rattle.find_names.specs.Found.{PrintsFound}
-use Rattle.rename_rules.specs.Renaming.{Refusal, bad_name, no_name, refused, IsRenaming}
+use Rattle.offences.specs.declared.refusals.Refusal.{Refusal}
+use Rattle.rename_rules.specs.Renaming.{IsRenaming}
 use Rattle.batch_run.specs.Line.{LineValue}
 use Rattle.batch_run.specs.Reading.{batch_of}
-use Rattle.batch_run.specs.Batch.{Plan, IsBatch, after_each, plan_text, is_refused}
-use Rattle.template_rules.specs.Template.{IsTemplate, Refusal as TemplateRefused}
-use Rattle.template_rules.specs.Template as template
+use Rattle.batch_run.specs.Batch.{Plan, IsBatch, after_each, plan_text, is_refused, refusal_line}
+use Rattle.template_rules.specs.Template.{IsTemplate}
 use Rattle.generated.specs.Generated.{header_path, workspace_path, generated_files}
 use Rattle.cscout_run.specs.declared.status.Status.{Status}
 use Rattle.cscout_run.specs.declared.status.Status.TheVariants.{Done, Refused, Usage, Workspace}
 use Rattle.command_words.specs.Request.{RequestValue, help_asked, version_asked, renaming_asked, template_asked, tokens_asked, skipped_asked, class_asked, unused_asked, includes_asked, calls_asked, find_asked, batch_asked, RenameValue, TemplateValue, TokensValue, ClassValue, FindValue, BatchValue, asked, generated_asked}
-use Rattle.command_words.specs.Message.{usage_line, absent_line, ws_line, unit_line, refused_line, batch_line, offence_line, query_line, edited_lines, size_line}
+use Rattle.command_words.specs.Message.{usage_line, absent_line, ws_line, unit_line, refused_line, batch_line, query_line, edited_lines, size_line}
 use Rattle.command_words.specs.Help.{help_text, version_text}
 
 -- What a run does: its status, the text for `out`, the text for `err`, and the edits that it puts.
@@ -65,16 +65,10 @@ ws_fault_line ws (too_many_units line) = ws_line ws line (codes "too many units"
 abbrev pub text_fault_line : units.UnitFault → List ℕ
 text_fault_line f = unit_line f.unit f.fault.place f.fault.cause
 
--- a refused renaming
-abbrev pub refusal_line : Refusal → List ℕ
-refusal_line bad_name = refused_line (codes "bad name")
-refusal_line no_name = refused_line (codes "no name")
-refusal_line (refused place cause) = offence_line place cause
-
--- a renaming that is planned
-abbrev pub renaming_answer : Result (List Edit) Refusal → Answer
-renaming_answer (Ok edits) = answer_of Done (edited_lines edits) [] edits
-renaming_answer (Err refusal) = stopped Refused (refusal_line refusal)
+-- an edit that is planned, or why it is refused
+abbrev pub edit_answer : Result (List Edit) Refusal → Answer
+edit_answer (Ok edits) = answer_of Done (edited_lines edits) [] edits
+edit_answer (Err refusal) = stopped Refused (refusal_line refusal)
 
 -- ---- the workspace file
 
@@ -169,7 +163,7 @@ IsFindAnswer q (Err fault) a = stopped Workspace (text_fault_line fault) ≡ a
 -- The same for a renaming of the class that a place names: the answer is that of what is planned.
 abbrev pub IsRenameAnswer : RenameValue → Result AnalysisValue units.UnitFault → Answer → Type 0
 IsRenameAnswer q (Ok value) a =
-    (planned : Result (List Edit) Refusal) × IsRenaming value q.path q.line q.column q.name q.strings planned × (renaming_answer planned ≡ a)
+    (planned : Result (List Edit) Refusal) × IsRenaming value q.path q.line q.column q.name q.strings planned × (edit_answer planned ≡ a)
 IsRenameAnswer q (Err fault) a = stopped Workspace (text_fault_line fault) ≡ a
 
 -- ---- `batch`
@@ -200,22 +194,10 @@ IsBatchAnswer files w (Some (Err line)) a = stopped Refused (batch_line line) �
 
 -- ---- `template`
 
--- a refused order
-abbrev pub template_line : TemplateRefused → List ℕ
-template_line template.no_name = refused_line (codes "no name")
-template_line template.not_a_function = refused_line (codes "not a function")
-template_line template.bad_order = refused_line (codes "bad order")
-template_line (template.refused place cause) = offence_line place cause
-
--- an order that is planned
-abbrev pub template_answer : Result (List Edit) TemplateRefused → Answer
-template_answer (Ok edits) = answer_of Done (edited_lines edits) [] edits
-template_answer (Err refusal) = stopped Refused (template_line refusal)
-
 -- The same for a new order of the parameters of the functions that a place names.
 abbrev pub IsTemplateAnswer : TemplateValue → Result AnalysisValue units.UnitFault → Answer → Type 0
 IsTemplateAnswer q (Ok value) a =
-    (planned : Result (List Edit) TemplateRefused) × IsTemplate value q.path q.line q.column q.order planned × (template_answer planned ≡ a)
+    (planned : Result (List Edit) Refusal) × IsTemplate value q.path q.line q.column q.order planned × (edit_answer planned ≡ a)
 IsTemplateAnswer q (Err fault) a = stopped Workspace (text_fault_line fault) ≡ a
 
 -- ---- `generate`

@@ -18,11 +18,11 @@ use Rattle.cscout_run.specs.declared.preparing.Ready.{Ready}
 use Rattle.rename_rules.specs.Renaming.{IsRenaming}
 use Rattle.batch_run.specs.Line.{LineValue}
 use Rattle.batch_run.specs.Batch.{Plan, IsBatch, after_each}
-use Rattle.rename_plan.specs.declared.refusals.RenameRefusal.{RenameRefusal}
-use Rattle.rename_plan.specs.declared.refusals.RenameRefusal.TheVariants as refusal
+use Rattle.offences.specs.declared.refusals.PlanFault.{PlanFault}
+use Rattle.offences.specs.declared.refusals.PlanFault.TheVariants as plan
+use Rattle.offences.specs.declared.refusals.Refusal.{Refusal}
+use Rattle.offences.specs.declared.refusals.Refusal.TheVariants as refusal
 use Rattle.batch_run.specs.Renamed.{KeepsLines}
-use Rattle.template_rules.specs.declared.refusals.TemplateRefusal.{TemplateRefusal}
-use Rattle.template_rules.specs.declared.refusals.TemplateRefusal.TheVariants as template
 use Rattle.find_names.specs.declared.refusal.FindRefusal.{FindRefusal}
 use Rattle.find_names.specs.declared.refusal.FindRefusal.TheVariants as found
 use Rattle.command_words.specs.Request.{RequestValue, RenameValue, TemplateValue, BatchValue, renaming_asked, template_asked, batch_asked}
@@ -64,26 +64,24 @@ stop_of (fault.WorkspaceFault unit place cause) = UnitFault unit place cause
 stop_of (fault.ReadFault path) = UnreadFile path
 stop_of fault.Memory = Memory
 
--- why a rename is refused, as an early end
-abbrev pub stop_for : RenameRefusal → Stop
-stop_for refusal.BadName = BadName
-stop_for refusal.NoName = NoName
-stop_for (refusal.Offence place cause) = Offence place cause
-stop_for refusal.Memory = Memory
+-- why an edit is refused, as an early end
+abbrev pub refused_stop : Refusal → Stop
+refused_stop refusal.BadName = BadName
+refused_stop refusal.NoName = NoName
+refused_stop refusal.NotAFunction = NotAFunction
+refused_stop refusal.BadOrder = BadOrder
+refused_stop (refusal.Offence place cause) = Offence place cause
+
+-- why there are no edits, as an early end
+abbrev pub stop_for : PlanFault → Stop
+stop_for (plan.Refused why) = refused_stop why
+stop_for plan.Memory = Memory
 
 -- why nothing is found, as an early end
 abbrev pub find_stop : FindRefusal → Stop
 find_stop (found.BadQuery at) = BadQuery at
 find_stop (found.TooDeep at) = DeepQuery at
 find_stop found.Memory = Memory
-
--- why an order is refused, as an early end
-abbrev pub template_stop : TemplateRefusal → Stop
-template_stop template.NoName = NoName
-template_stop template.NotAFunction = NotAFunction
-template_stop template.BadOrder = BadOrder
-template_stop (template.Offence place cause) = Offence place cause
-template_stop template.Memory = Memory
 
 -- what a step says of reads: where it goes on, none failed
 abbrev pub reads_of : {X : Type 0} → List ℕ → Result X Stop → ReadEnd

@@ -45,7 +45,7 @@ fn size_of(alloc: Global, a: &Analysis, n: u32) -> Result<Ready, Stop>
                 refused: false,
             })
         }
-        Err(refusal) => Err(stop_for(refusal)),
+        Err(fault) => Err(stop_for(fault)),
     }
 }
 

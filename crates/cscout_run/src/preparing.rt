@@ -6,7 +6,7 @@ ghost use Rattle.rename_rules.specs.Renaming.{IsRenaming};
 ghost use Rattle.cscout_run.specs.Answer.{IsRenameAnswer, IsRequestAnswer};
 ghost use Rattle.command_words.specs.Asking.{request_value, rename_value, workspace_file};
 ghost use Rattle.command_words.specs.Request.{renaming_asked};
-ghost use Rattle.cscout_run.specs.Steps.{IsPlanStop, IsPlanned, IsPlannedFor, Prepares, reads_of, stop_for};
+ghost use Rattle.cscout_run.specs.Steps.{IsPlanStop, IsPlanned, IsPlannedFor, Prepares, reads_of, refused_stop, stop_for};
 
 use crate::batches::prepare_batch;
 use crate::calls::prepare_calls;
@@ -20,8 +20,9 @@ use crate::workspace_files::read_workspace;
 use analysis::{Analysis, analyse};
 use command_words::{Rename, Request, edited_text, help, version};
 use cs_base::{Edits, Files, Memory, Text, normal_path};
+use offences::{PlanFault, Refusal};
 use query_report::Query;
-use rename_plan::{RenameRefusal, plan_rename};
+use rename_plan::plan_rename;
 use std::alloc::Global;
 use std::{mem, str};
 
@@ -122,19 +123,30 @@ fn planned(alloc: Global, a: &Analysis, rename: &Rename<'_>) -> Result<Ready, St
                 refused: false,
             })
         }
-        Err(refusal) => Err(stop_for(refusal)),
+        Err(fault) => Err(stop_for(fault)),
     }
 }
 
-/// Why a rename is refused, as an early end of the run.
-pub(crate) fn stop_for(refusal: RenameRefusal) -> Stop
-    ensures { result ≡ stop_for refusal }
+/// Why there are no edits, as an early end of the run.
+pub(crate) fn stop_for(fault: PlanFault) -> Stop
+    ensures { result ≡ stop_for fault }
 {
-    match refusal {
-        RenameRefusal::BadName => Stop::BadName,
-        RenameRefusal::NoName => Stop::NoName,
-        RenameRefusal::Offence { place, cause } => Stop::Offence { place, cause },
-        RenameRefusal::Memory => Stop::Memory,
+    match fault {
+        PlanFault::Refused(why) => refused_stop(why),
+        PlanFault::Memory => Stop::Memory,
+    }
+}
+
+// Why an edit is refused, as an early end of the run.
+fn refused_stop(why: Refusal) -> Stop
+    ensures { result ≡ refused_stop why }
+{
+    match why {
+        Refusal::BadName => Stop::BadName,
+        Refusal::NoName => Stop::NoName,
+        Refusal::NotAFunction => Stop::NotAFunction,
+        Refusal::BadOrder => Stop::BadOrder,
+        Refusal::Offence { place, cause } => Stop::Offence { place, cause },
     }
 }
 

@@ -5,10 +5,10 @@ ghost use Rattle.cs_base.specs.Outside.{ReadsOnly};
 ghost use Rattle.command_words.specs.Asking.{template_value};
 ghost use Rattle.command_words.specs.Request.{template_asked};
 ghost use Rattle.cscout_run.specs.Answer.{IsRequestAnswer, IsTemplateAnswer};
-ghost use Rattle.cscout_run.specs.Steps.{IsOrdered, IsPlanStop, Prepares, reads_of, template_stop};
+ghost use Rattle.cscout_run.specs.Steps.{IsOrdered, IsPlanStop, Prepares, reads_of};
 ghost use Rattle.template_meaning.specs.Kept.{ReordersOver};
 
-use crate::preparing::{Ready, path_text};
+use crate::preparing::{Ready, path_text, stop_for};
 use crate::reporting::stop_of;
 use crate::stops::Stop;
 use crate::workspace_files::read_workspace;
@@ -18,7 +18,6 @@ use cs_base::{Files, normal_path};
 use std::alloc::Global;
 use std::mem;
 use template_plan::plan_template;
-use template_rules::TemplateRefusal;
 
 /// All of the answer to a new order of parameters but its puts and its output.
 pub(crate) fn prepare_template<F: Files>(
@@ -61,19 +60,6 @@ fn reordered(alloc: Global, a: &Analysis, q: &Reordering<'_>) -> Result<Ready, S
                 refused: false,
             })
         }
-        Err(refusal) => Err(template_stop(refusal)),
-    }
-}
-
-// Why an order is refused, as an early end of the run.
-fn template_stop(refusal: TemplateRefusal) -> Stop
-    ensures { result ≡ template_stop refusal }
-{
-    match refusal {
-        TemplateRefusal::NoName => Stop::NoName,
-        TemplateRefusal::NotAFunction => Stop::NotAFunction,
-        TemplateRefusal::BadOrder => Stop::BadOrder,
-        TemplateRefusal::Offence { place, cause } => Stop::Offence { place, cause },
-        TemplateRefusal::Memory => Stop::Memory,
+        Err(fault) => Err(stop_for(fault)),
     }
 }

@@ -1,4 +1,5 @@
 pub mod AmongLemmas
+pub mod AnswerLemmas
 pub mod FirstLemmas
 pub mod ClassLemmas
 pub mod OriginLemmas

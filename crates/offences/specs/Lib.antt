@@ -3,3 +3,4 @@ pub mod Tokens
 pub mod Class
 pub mod First
 pub mod Answers
+pub mod Refusals

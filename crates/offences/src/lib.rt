@@ -4,12 +4,15 @@
 //! that of the least place, and at one place that of the least number (`specs/First.antt`); `first_with` takes one more into
 //! account. A `Class` is an analysis with the members and the number of one of its classes; `member_over` and `member_at` tell
 //! which member holds a character, and `holds_member` whether a token holds one (`specs/Class.antt`, `specs/Tokens.antt`). A
-//! call gives one answer or one refusal, `GivesOne` of `specs/Answers.antt`. Which offences there are belongs to the crates
-//! above, `rename_rules` and `template_rules`. Nothing here takes memory. Read `specs/First.antt`, then `firsts.rt`.
+//! plan gives one answer or one `Refusal`, `GivesOne` of `specs/Answers.antt`, or its memory runs out (`PlanFault`,
+//! `specs/Refusals.antt`). Which offences there are belongs to the crates above, `rename_rules` and `template_rules`. Read
+//! `specs/First.antt`, then `firsts.rt`.
 #![tactic(auto)]
 
 mod classes;
 mod firsts;
+mod refusals;
 
 pub use classes::{Class, holds_member, length, member_at, member_over};
 pub use firsts::{Offence, compare, first_with};
+pub use refusals::{PlanFault, Refusal, refused};

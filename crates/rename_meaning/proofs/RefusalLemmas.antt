@@ -23,7 +23,7 @@ use Rattle.analysis.specs.Places.{place_at, place_in_file, place_in_lines}
 use Rattle.offences.specs.declared.firsts.Offence.{Offence}
 use Rattle.offences.specs.First.{offence_cmp, path_of, position_cmp, IsFirst}
 use Rattle.rename_rules.specs.Offences.{offences_of}
-use Rattle.rename_rules.specs.Renaming.{refused}
+use Rattle.offences.specs.declared.refusals.Refusal.TheVariants as refusal
 use Rattle.cs_base.proofs.CauseLemmas.{one_cause}
 use Rattle.edited_unit_laws.proofs.AnalysedUnitLemmas.{no_lines, lines_first}
 use Rattle.analysis.proofs.OnceLemmas.{paths_once}
@@ -121,4 +121,4 @@ refusals_are_one = λ source ws a members name strings x y is analysed p q.
     let u : Offence = q.0 in
     let both = firsts_are_tied source ws a (offences_of a members name strings) o u is analysed p.1 q.1 in
     let cause_is : o.cause ≡ u.cause = one_cause o.cause u.cause both.1 in
-    p.2 ∙ (ap (λ (z : Place). refused z o.cause) both.0 ∙ (ap (λ (c : Cause). refused (place_at a.table u.at) c) cause_is ∙ sym q.2))
+    p.2 ∙ (ap (λ (z : Place). refusal.Offence z o.cause) both.0 ∙ (ap (λ (c : Cause). refusal.Offence (place_at a.table u.at) c) cause_is ∙ sym q.2))

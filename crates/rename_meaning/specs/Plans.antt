@@ -8,7 +8,8 @@ use Rattle.analysis.specs.Below.eclass_map.ClassTable as classes
 use Rattle.ws_file.specs.Workspace.{WorkspaceValue, IsWorkspace}
 use Rattle.source_files.specs.Files.{Source}
 use Rattle.offences.specs.First.{IsAmong}
-use Rattle.rename_rules.specs.Renaming.{Refusal, IsRenamed, IsRenaming}
+use Rattle.offences.specs.declared.refusals.Refusal.{Refusal}
+use Rattle.rename_rules.specs.Renaming.{IsRenamed, IsRenaming}
 use Rattle.analysis.specs.Analysis.{AnalysisValue, analysis_of}
 use Rattle.analysis.specs.Classes.{AreItsClasses}
 use Rattle.analysis.specs.Naming.{Names}

@@ -1,4 +1,3 @@
 -- What the public contracts rest on.
-pub mod Refusals
 -- What inner functions promise each other.
 pub mod Order

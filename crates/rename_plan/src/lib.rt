@@ -9,7 +9,5 @@
 
 mod edits;
 mod plan;
-mod refusals;
 
 pub use plan::plan_rename;
-pub use refusals::RenameRefusal;

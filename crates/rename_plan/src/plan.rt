@@ -8,16 +8,15 @@ ghost use Rattle.rename_rules.specs.Offences.{member_offences, offences_of, spel
 ghost use Rattle.rename_rules.specs.Offences.{kept_string_places};
 ghost use Rattle.rename_rules.specs.Renaming.{IsClassRenamed, IsRenamed, IsRenaming};
 ghost use Rattle.offences.specs.Answers.{GivesOne};
+ghost use Rattle.offences.specs.Refusals.{refusal_of};
 ghost use Rattle.rename_rules.specs.Runs.{edits_of};
 ghost use Rattle.analysis.specs.Parts.{IsPart};
-ghost use Rattle.rename_plan.specs.Refusals.{refusal_of};
 
 use crate::edits::edit_files;
-use crate::refusals::{RenameRefusal, refused};
 use analysis::Analysis;
 use cs_base::{Edits, Memory, Part};
 use lexer::is_identifier;
-use offences::Offence;
+use offences::{Offence, PlanFault, Refusal, refused};
 use rename_rules::{
     Renaming, clashing, header_names, no_identifiers, occurring, read_only, reserved, shadowed,
     stringized, too_large,
@@ -34,7 +33,7 @@ pub fn plan_rename(
     column: u32,
     name: &[u8],
     strings: bool,
-) -> Result<Edits, RenameRefusal>
+) -> Result<Edits, PlanFault>
     ensures answer { GivesOne (λ edits. edits) refusal_of result (IsRenaming a.now.value path.now line column name.now strings) }
     // Over each source with this analysis, once the edits are made, the workspace means what it meant.
     ensures meaning { IfOk result (λ edits. RenamesOver a.now.value.workspace a.now.value path.now line column name.now edits) }
@@ -55,15 +54,15 @@ fn plan_named(
     column: u32,
     name: &[u8],
     strings: bool,
-) -> Result<Edits, RenameRefusal>
+) -> Result<Edits, PlanFault>
     ensures { GivesOne (λ edits. edits) refusal_of result (IsRenaming a.now.value path.now line column name.now strings) }
 {
     if !is_identifier(name) {
-        return Err(RenameRefusal::BadName);
+        return Err(PlanFault::Refused(Refusal::BadName));
     }
     match a.part_at(path, line, column) {
         Some(part) => plan_part(alloc, a, part, name, strings),
-        None => Err(RenameRefusal::NoName),
+        None => Err(PlanFault::Refused(Refusal::NoName)),
     }
 }
 
@@ -74,14 +73,14 @@ fn plan_part(
     part: Part,
     name: &[u8],
     strings: bool,
-) -> Result<Edits, RenameRefusal>
+) -> Result<Edits, PlanFault>
     requires { IsPart a.now.value part }
     ensures { GivesOne (λ edits. edits) refusal_of result (IsClassRenamed a.now.value part name.now strings) }
 {
     match a.classes().class_of(part) {
         Some(number) => plan_class(alloc, a, a.members(part), number, name, strings),
         // Each part has a class.
-        None => Err(RenameRefusal::Memory),
+        None => Err(PlanFault::Memory),
     }
 }
 
@@ -93,7 +92,7 @@ fn plan_class(
     number: u32,
     name: &[u8],
     strings: bool,
-) -> Result<Edits, RenameRefusal>
+) -> Result<Edits, PlanFault>
     requires { IsClass a.now members.now number }
     ensures { GivesOne (λ edits. edits) refusal_of result (IsRenamed a.now.value members.now name.now strings) }
 {
@@ -102,11 +101,7 @@ fn plan_class(
 }
 
 // The same for the class and its new name.
-fn plan_renaming(
-    alloc: Global,
-    renaming: &Renaming<'_>,
-    strings: bool,
-) -> Result<Edits, RenameRefusal>
+fn plan_renaming(alloc: Global, renaming: &Renaming<'_>, strings: bool) -> Result<Edits, PlanFault>
     ensures { GivesOne (λ edits. edits) refusal_of result
         (IsRenamed renaming.now.class.analysis.value renaming.now.class.members renaming.now.name strings) }
 {

@@ -1,7 +1,8 @@
 // Renamings of classes in whole workspaces, worked by hand from the definitions.
 use analysis::{Analysis, analyse};
 use cs_base::Edits;
-use rename_plan::{RenameRefusal, plan_rename};
+use offences::{PlanFault, Refusal};
+use rename_plan::plan_rename;
 use std::alloc::{AllocError, Global};
 use std::test::Fail;
 use ws_file::read_ws;
@@ -384,18 +385,26 @@ fn show_edits(alloc: Global, edits: &Edits) -> Result<Vec<u8>, AllocError> {
     Ok(out)
 }
 
-fn show_refusal(alloc: Global, refusal: &RenameRefusal) -> Result<Vec<u8>, AllocError> {
+fn show_fault(alloc: Global, fault: &PlanFault) -> Result<Vec<u8>, AllocError> {
+    match fault {
+        PlanFault::Refused(why) => show_refusal(alloc, why),
+        PlanFault::Memory => Err(AllocError),
+    }
+}
+
+fn show_refusal(alloc: Global, refusal: &Refusal) -> Result<Vec<u8>, AllocError> {
     let mut out = Vec::new(alloc);
     match refusal {
-        RenameRefusal::BadName => out.extend_from_slice(b"bad name")?,
-        RenameRefusal::NoName => out.extend_from_slice(b"no name")?,
-        RenameRefusal::Offence { place, cause } => {
+        Refusal::BadName => out.extend_from_slice(b"bad name")?,
+        Refusal::NoName => out.extend_from_slice(b"no name")?,
+        Refusal::NotAFunction => out.extend_from_slice(b"not a function")?,
+        Refusal::BadOrder => out.extend_from_slice(b"bad order")?,
+        Refusal::Offence { place, cause } => {
             let (line, column) = (place.line, place.column);
             out.extend_from_slice(place.path.bytes())?;
             out.extend_from_slice(format!(in alloc; ":{line}:{column}: ")?.as_bytes())?;
             out.extend_from_slice(cause.words())?;
         }
-        RenameRefusal::Memory => return Err(AllocError),
     }
     Ok(out)
 }
@@ -423,7 +432,7 @@ fn shown(alloc: Global, row: &Row) -> Result<Vec<u8>, Fail> {
         row.strings,
     ) {
         Ok(edits) => Ok(show_edits(alloc, &edits)?),
-        Err(refusal) => Ok(show_refusal(alloc, &refusal)?),
+        Err(refusal) => Ok(show_fault(alloc, &refusal)?),
     }
 }
 

@@ -1,30 +1,18 @@
 -- The renaming of the class that a place names (this project's): the edits of the files, or why it is refused.
 use Rattle.std.specs.Prelude.{ℕ, ◌≡◌, Bool, true, false, Option, Some, None, List, Result, Ok, Err}
-use Rattle.cs_base.specs.declared.causes.Cause.{Cause}
 use Rattle.cs_base.specs.declared.positions.Part.{Part}
-use Rattle.cs_base.specs.declared.positions.Place.{Place}
 use Rattle.cs_base.specs.Edit.{Edit}
 use Rattle.analysis.specs.Below.lexer.Spelling.{is_identifier_text}
 use Rattle.analysis.specs.Analysis.{AnalysisValue}
 use Rattle.analysis.specs.Naming.{Names}
 use Rattle.analysis.specs.Parts.{AreMembers}
-use Rattle.analysis.specs.Places.{place_at}
 use Rattle.offences.specs.declared.firsts.Offence.{Offence}
+use Rattle.offences.specs.declared.refusals.Refusal.{Refusal}
+use Rattle.offences.specs.declared.refusals.Refusal.TheVariants.{BadName, NoName}
 use Rattle.offences.specs.First.{IsFirst}
+use Rattle.offences.specs.Refusals.{refused_for}
 use Rattle.rename_rules.specs.Offences.{offences_of}
 use Rattle.rename_rules.specs.Runs.{edits_of}
-
--- ---- refusals
-
--- Why a renaming is refused: the new name is no identifier, the place names nothing, or an offence stands there.
-pub data Refusal : Type 0 where
-  bad_name : Refusal
-  no_name : Refusal
-  refused : Place → Cause → Refusal
-
--- the refusal for an offence
-abbrev pub refused_for : AnalysisValue → Offence → Refusal
-refused_for a o = refused (place_at a.table o.at) o.cause
 
 -- What is answered for a class: its edits where no offence stands, and else the first offence. `strings` says that strings which
 -- `#` makes may follow the renaming.
@@ -41,10 +29,10 @@ pub record IsClassRenamed (a : AnalysisValue) (part : Part) (name : List ℕ) (s
 
 -- the same for what a place names: a part, or nothing
 abbrev pub IsNamedRenamed : AnalysisValue → List ℕ → Bool → Result (List Edit) Refusal → Option Part → Type 0
-IsNamedRenamed a name strings answer None = answer ≡ Err no_name
+IsNamedRenamed a name strings answer None = answer ≡ Err NoName
 IsNamedRenamed a name strings answer (Some part) = IsClassRenamed a part name strings answer
 
 -- What is answered for a place and a new name, in the order in which it is looked: the name, the place, the offences.
 pub record IsRenaming (a : AnalysisValue) (path : List ℕ) (line column : ℕ) (name : List ℕ) (strings : Bool) (answer : Result (List Edit) Refusal) : Type 0 where
-  pub bad_name : is_identifier_text name ≡ false → answer ≡ Err bad_name
+  pub bad_name : is_identifier_text name ≡ false → answer ≡ Err BadName
   pub named : is_identifier_text name ≡ true → (named : Option Part) × Names a path line column named × IsNamedRenamed a name strings answer named

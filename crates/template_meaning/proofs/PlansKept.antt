@@ -15,7 +15,8 @@ use Rattle.template_rules.specs.FileLists.{edits_of}
 use Rattle.template_rules.specs.Functions.{has_function}
 use Rattle.template_rules.specs.Lists.{count_of}
 use Rattle.template_rules.specs.Offences.{offences_of}
-use Rattle.template_rules.specs.Template.{Refusal, IsOrdered, IsNamedOrdered}
+use Rattle.offences.specs.declared.refusals.Refusal.{Refusal}
+use Rattle.template_rules.specs.Template.{IsOrdered, IsNamedOrdered}
 use Rattle.template_meaning.specs.Accepted.{IsAccepted}
 use Rattle.template_meaning.specs.Kept.{HoldsLists, AreReordered, AreMade, KeepsMeaning, ReordersOver, OrdersKeepMeaning, PlansKeepMeaning}
 use Rattle.template_meaning.proofs.EditsMade.{edits_reorder_files}

@@ -1,9 +1,10 @@
 // New orders of parameters in small workspaces: the files with each list in the new order, or why it is refused.
 use analysis::{Analysis, analyse};
 use cs_base::Edits;
+use offences::{PlanFault, Refusal};
 use std::alloc::{AllocError, Global};
 use std::test::Fail;
-use template_rules::{TemplateRefusal, plan_template};
+use template_rules::plan_template;
 use ws_file::read_ws;
 
 // Rows, `%` between them, of which each field stands behind a `$`: a workspace file; the files that are held, each as
@@ -631,19 +632,26 @@ fn show_edits(alloc: Global, edits: &Edits) -> Result<Vec<u8>, AllocError> {
     Ok(out)
 }
 
-fn show_refusal(alloc: Global, refusal: &TemplateRefusal) -> Result<Vec<u8>, AllocError> {
+fn show_fault(alloc: Global, fault: &PlanFault) -> Result<Vec<u8>, AllocError> {
+    match fault {
+        PlanFault::Refused(why) => show_refusal(alloc, why),
+        PlanFault::Memory => Err(AllocError),
+    }
+}
+
+fn show_refusal(alloc: Global, refusal: &Refusal) -> Result<Vec<u8>, AllocError> {
     let mut out = Vec::new(alloc);
     match refusal {
-        TemplateRefusal::NoName => out.extend_from_slice(b"no name")?,
-        TemplateRefusal::NotAFunction => out.extend_from_slice(b"not a function")?,
-        TemplateRefusal::BadOrder => out.extend_from_slice(b"bad order")?,
-        TemplateRefusal::Offence { place, cause } => {
+        Refusal::BadName => out.extend_from_slice(b"bad name")?,
+        Refusal::NoName => out.extend_from_slice(b"no name")?,
+        Refusal::NotAFunction => out.extend_from_slice(b"not a function")?,
+        Refusal::BadOrder => out.extend_from_slice(b"bad order")?,
+        Refusal::Offence { place, cause } => {
             let (line, column) = (place.line, place.column);
             out.extend_from_slice(place.path.bytes())?;
             out.extend_from_slice(format!(in alloc; ":{line}:{column}: ")?.as_bytes())?;
             out.extend_from_slice(cause.words())?;
         }
-        TemplateRefusal::Memory => return Err(AllocError),
     }
     Ok(out)
 }
@@ -667,7 +675,7 @@ fn shown(alloc: Global, ws: &str, files: &str, place: &str) -> Result<Vec<u8>, F
     let order = order_of(alloc, order)?;
     match plan_template(alloc, &a, path, number(line), number(column), &order) {
         Ok(edits) => Ok(show_edits(alloc, &edits)?),
-        Err(refusal) => Ok(show_refusal(alloc, &refusal)?),
+        Err(refusal) => Ok(show_fault(alloc, &refusal)?),
     }
 }
 

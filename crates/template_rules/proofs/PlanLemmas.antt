@@ -1,6 +1,6 @@
 -- What is answered for a place, by what is answered for a class; and the paths of kept files.
 use Rattle.std.proofs.Common.{◌≡◌, ℕ, zero, suc, ◌<◌, true, false, Bool, List, [], ◌∷◌, ◌++◌, Option, Some, None, Result, Ok, Err, slice_get, length, refl, sym, ap, ◌∙◌, arith}
-use Rattle.std.specs.Prelude.{◌==◌, ◌&&◌, IfOk, IfSome, IsUtf8}
+use Rattle.std.specs.Prelude.{◌==◌, ◌&&◌, IfOk, IsUtf8}
 use Rattle.std.specs.List.{list_all}
 use Rattle.std.specs.Option.{option_map, option_and_then}
 use Rattle.std.specs.Str.{is_utf8}
@@ -15,25 +15,17 @@ use Rattle.analysis.specs.Below.source_files.KeptFiles.{KeptValue, kept, kept_by
 use Rattle.analysis.specs.Below.source_files.Tables.{paths_in, AreText}
 use Rattle.analysis.specs.Analysis.{AnalysisValue}
 use Rattle.offences.specs.declared.firsts.Offence.{Offence}
+use Rattle.offences.specs.declared.refusals.Refusal.{Refusal}
+use Rattle.offences.specs.declared.refusals.Refusal.TheVariants.{NotAFunction, BadOrder}
 use Rattle.offences.specs.First.{IsFirst, FirstThen}
-use Rattle.offences.specs.Answers.{GivesOne}
 use Rattle.template_rules.specs.FileLists.{new_bytes, edit_for}
 use Rattle.template_rules.specs.Functions.{has_function}
 use Rattle.template_rules.specs.Lists.{count_of}
-use Rattle.template_rules.specs.Template.{Refusal, not_a_function, bad_order, IsOrdered, IsReordered}
-
-pub if_some : {F : Type 0} (o : Option F) (P Q : F → Type 0) → ((x : F) → P x → Q x) → IfSome o P → IfSome o Q
-if_some None P Q f h = tt
-if_some (Some x) P Q f h = f x h
+use Rattle.template_rules.specs.Template.{IsOrdered, IsReordered}
 
 pub if_ok : {X E : Type 0} (r : Result X E) (P Q : X → Type 0) → ((x : X) → P x → Q x) → IfOk r P → IfOk r Q
 if_ok (Ok x) P Q f h = f x h
 if_ok (Err e) P Q f h = tt
-
-pub gives_also : {X Y E F : Type 0} (view : X → Y) (fault_of : E → Option F) (P Q : Result Y F → Type 0) → ((r : Result Y F) → P r → Q r)
-    → (r : Result X E) → GivesOne view fault_of r P → GivesOne view fault_of r Q
-gives_also view fault_of P Q f (Ok x) h = f (Ok (view x)) h
-gives_also view fault_of P Q f (Err e) h = if_some (fault_of e) (λ x. P (Err x)) (λ x. Q (Err x)) (λ x. f (Err x)) h
 
 -- the first of some offences alone
 pub first_of : (table : Table) (more : List Offence) (first : Option Offence) → FirstThen table more None first → IsFirst table more first
@@ -53,14 +45,14 @@ not_both : (b : Bool) → b ≡ true → b ≡ false → ⊥
 not_both b is other = let e : true ≡ false = sym is ∙ other in cc
 
 module _ (a : AnalysisValue) (members : List Part) (order : List ℕ) where
-  pub no_function : has_function members a ≡ false → IsOrdered a members order (Err not_a_function)
+  pub no_function : has_function members a ≡ false → IsOrdered a members order (Err NotAFunction)
   no_function none = record {
     no_function = λ h. refl;
     no_order = λ has bad. absurd (not_both (has_function members a) has none);
     ordered = λ has good. absurd (not_both (has_function members a) has none);
   }
 
-  pub no_order : has_function members a ≡ true → is_order (count_of a members) order ≡ false → IsOrdered a members order (Err bad_order)
+  pub no_order : has_function members a ≡ true → is_order (count_of a members) order ≡ false → IsOrdered a members order (Err BadOrder)
   no_order some none = record {
     no_function = λ h. absurd (not_both (has_function members a) some h);
     no_order = λ has bad. refl;

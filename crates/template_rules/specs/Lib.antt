@@ -12,5 +12,3 @@ pub mod FileLists
 pub mod Units
 pub mod Asking
 pub mod Template
--- What contracts see of answers.
-pub mod Refusals

@@ -1,35 +1,21 @@
 -- The new order of the parameters of the functions that a place names (this project's): the edits of the files, or why it
 -- is refused.
 use Rattle.std.specs.Prelude.{ℕ, ◌≡◌, true, false, Option, Some, None, List, Result, Ok, Err}
-use Rattle.cs_base.specs.declared.causes.Cause.{Cause}
 use Rattle.cs_base.specs.declared.positions.Part.{Part}
-use Rattle.cs_base.specs.declared.positions.Place.{Place}
 use Rattle.cs_base.specs.Edit.{Edit}
 use Rattle.list_cuts.specs.Orders.{is_order}
 use Rattle.analysis.specs.Analysis.{AnalysisValue}
 use Rattle.analysis.specs.Naming.{Names}
 use Rattle.analysis.specs.Parts.{AreMembers}
-use Rattle.analysis.specs.Places.{place_at}
 use Rattle.offences.specs.declared.firsts.Offence.{Offence}
+use Rattle.offences.specs.declared.refusals.Refusal.{Refusal}
+use Rattle.offences.specs.declared.refusals.Refusal.TheVariants.{NoName, NotAFunction, BadOrder}
 use Rattle.offences.specs.First.{IsFirst}
+use Rattle.offences.specs.Refusals.{refused_for}
 use Rattle.template_rules.specs.FileLists.{edits_of}
 use Rattle.template_rules.specs.Functions.{has_function}
 use Rattle.template_rules.specs.Lists.{count_of}
 use Rattle.template_rules.specs.Offences.{offences_of}
-
--- ---- refusals
-
--- Why a new order is refused: the place names nothing, no function, the numbers are no order of its parameters, or an
--- offence stands there.
-pub data Refusal : Type 0 where
-  no_name : Refusal
-  not_a_function : Refusal
-  bad_order : Refusal
-  refused : Place → Cause → Refusal
-
--- the refusal for an offence
-abbrev pub refused_for : AnalysisValue → Offence → Refusal
-refused_for a o = refused (place_at a.table o.at) o.cause
 
 -- What is answered for a class and an order of so many parameters: its edits where no offence stands, and else the first.
 abbrev pub IsReordered : AnalysisValue → List Part → List ℕ → Result (List Edit) Refusal → Type 0
@@ -39,8 +25,8 @@ IsReordered a members order (Err refusal) =
 
 -- What is answered for a class, in the order in which it is looked: its functions, the order, the offences.
 pub record IsOrdered (a : AnalysisValue) (members : List Part) (order : List ℕ) (answer : Result (List Edit) Refusal) : Type 0 where
-  pub no_function : has_function members a ≡ false → answer ≡ Err not_a_function
-  pub no_order : has_function members a ≡ true → is_order (count_of a members) order ≡ false → answer ≡ Err bad_order
+  pub no_function : has_function members a ≡ false → answer ≡ Err NotAFunction
+  pub no_order : has_function members a ≡ true → is_order (count_of a members) order ≡ false → answer ≡ Err BadOrder
   pub ordered : has_function members a ≡ true → is_order (count_of a members) order ≡ true → IsReordered a members order answer
 
 -- the same for the class of a part
@@ -51,7 +37,7 @@ pub record IsClassOrdered (a : AnalysisValue) (part : Part) (order : List ℕ) (
 
 -- the same for what a place names: a part, or nothing
 abbrev pub IsNamedOrdered : AnalysisValue → List ℕ → Result (List Edit) Refusal → Option Part → Type 0
-IsNamedOrdered a order answer None = answer ≡ Err no_name
+IsNamedOrdered a order answer None = answer ≡ Err NoName
 IsNamedOrdered a order answer (Some part) = IsClassOrdered a part order answer
 
 -- What is answered for a place and an order.

@@ -27,7 +27,6 @@ mod names;
 mod odd_tokens;
 mod places;
 mod plan;
-mod refusals;
 mod unit_functions;
 
 pub use counting::parameter_count;
@@ -38,4 +37,3 @@ pub use list_rules::at_lists;
 pub use macro_names::at_macro_names;
 pub use names::at_names;
 pub use plan::plan_template;
-pub use refusals::TemplateRefusal;

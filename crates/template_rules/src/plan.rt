@@ -4,10 +4,10 @@ ghost use Rattle.list_cuts.specs.Cuts.{IsOrder};
 ghost use Rattle.offences.specs.Class.{IsClass};
 ghost use Rattle.offences.specs.First.{IsFirst};
 ghost use Rattle.offences.specs.Answers.{GivesOne};
+ghost use Rattle.offences.specs.Refusals.{refusal_of};
 ghost use Rattle.analysis.specs.Parts.{IsPart};
 ghost use Rattle.template_rules.specs.Lists.{count_of};
 ghost use Rattle.template_rules.specs.Offences.{offences_of};
-ghost use Rattle.template_rules.specs.Refusals.{refusal_of};
 ghost use Rattle.template_rules.specs.Template.{IsClassOrdered, IsOrdered, IsReordered, IsTemplate};
 
 use crate::counting::parameter_count;
@@ -18,11 +18,10 @@ use crate::list_marks::at_marks;
 use crate::list_rules::at_lists;
 use crate::macro_names::at_macro_names;
 use crate::names::at_names;
-use crate::refusals::{TemplateRefusal, refused};
 use analysis::Analysis;
 use cs_base::{Edits, Memory, Part};
 use list_cuts::is_order;
-use offences::Offence;
+use offences::{Offence, PlanFault, Refusal, refused};
 use std::alloc::Global;
 
 /// The edits that put the parameters of the functions which a place names into a new order, with the arguments of their
@@ -34,29 +33,24 @@ pub fn plan_template(
     line: u32,
     column: u32,
     order: &[usize],
-) -> Result<Edits, TemplateRefusal>
+) -> Result<Edits, PlanFault>
     ensures { GivesOne (λ edits. edits) refusal_of result (IsTemplate a.now.value path.now line column order.now) }
 {
     match a.part_at(path, line, column) {
         Some(part) => plan_part(alloc, a, part, order),
-        None => Err(TemplateRefusal::NoName),
+        None => Err(PlanFault::Refused(Refusal::NoName)),
     }
 }
 
 // The same for the class of a part.
-fn plan_part(
-    alloc: Global,
-    a: &Analysis,
-    part: Part,
-    order: &[usize],
-) -> Result<Edits, TemplateRefusal>
+fn plan_part(alloc: Global, a: &Analysis, part: Part, order: &[usize]) -> Result<Edits, PlanFault>
     requires { IsPart a.now.value part }
     ensures { GivesOne (λ edits. edits) refusal_of result (IsClassOrdered a.now.value part order.now) }
 {
     match a.classes().class_of(part) {
         Some(number) => plan_class(alloc, a, a.members(part), number, order),
         // Each part has a class.
-        None => Err(TemplateRefusal::Memory),
+        None => Err(PlanFault::Memory),
     }
 }
 
@@ -67,7 +61,7 @@ fn plan_class(
     members: &[Part],
     number: u32,
     order: &[usize],
-) -> Result<Edits, TemplateRefusal>
+) -> Result<Edits, PlanFault>
     requires { IsClass a.now members.now number }
     ensures { GivesOne (λ edits. edits) refusal_of result (IsOrdered a.now.value members.now order.now) }
 {
@@ -76,20 +70,16 @@ fn plan_class(
 }
 
 // The same for the functions that it names.
-fn plan_named(
-    alloc: Global,
-    functions: &Functions<'_>,
-    order: &[usize],
-) -> Result<Edits, TemplateRefusal>
+fn plan_named(alloc: Global, functions: &Functions<'_>, order: &[usize]) -> Result<Edits, PlanFault>
     ensures { GivesOne (λ edits. edits) refusal_of result
         (IsOrdered functions.now.analysis.value functions.now.members order.now) }
 {
     if !has_functions(functions) {
-        return Err(TemplateRefusal::NotAFunction);
+        return Err(PlanFault::Refused(Refusal::NotAFunction));
     }
     let count = parameter_count(functions);
     if !is_order(alloc, count, order)? {
-        return Err(TemplateRefusal::BadOrder);
+        return Err(PlanFault::Refused(Refusal::BadOrder));
     }
     plan_functions(alloc, functions, count, order)
 }
@@ -100,7 +90,7 @@ fn plan_functions(
     functions: &Functions<'_>,
     count: usize,
     order: &[usize],
-) -> Result<Edits, TemplateRefusal>
+) -> Result<Edits, PlanFault>
     requires count { count ≡ count_of functions.now.analysis.value functions.now.members }
     requires order { IsOrder (length order.now) order.now }
     ensures { GivesOne (λ edits. edits) refusal_of result

@@ -1,8 +1,10 @@
 use Rattle.std.proofs.Common.{◌≡◌, true, None, Some, Err, refl, rules}
 use Rattle.lexer.specs.Spelling.{is_identifier_text}
-use Rattle.rename_rules.specs.Renaming.{IsClassRenamed, IsRenaming, no_name}
-use Rattle.rename_plan.specs.Refusals.{refusal_of}
-use Rattle.rename_plan.proofs.PlanLemmas.{gives_also, named_part}
+use Rattle.rename_rules.specs.Renaming.{IsClassRenamed, IsRenaming}
+use Rattle.offences.specs.declared.refusals.Refusal.TheVariants.{NoName}
+use Rattle.offences.specs.Refusals.{refusal_of}
+use Rattle.offences.proofs.AnswerLemmas.{gives_also}
+use Rattle.rename_plan.proofs.PlanLemmas.{named_part}
 use Rattle.rename_plan.proofs.plan.plan_named.Goals as goal
 
 pub returns-in-Some : goal.returns-in-Some
@@ -16,4 +18,4 @@ returns-in-Some c =
 pub returns-in-None : goal.returns-in-None
 returns-in-None c =
     let id : is_identifier_text c.args.name.now ≡ true = search rules in
-    named_part c.args.a.now.value c.args.path.now c.args.line c.args.column c.args.name.now c.args.strings None (Err no_name) id c.in-None.ensures refl
+    named_part c.args.a.now.value c.args.path.now c.args.line c.args.column c.args.name.now c.args.strings None (Err NoName) id c.in-None.ensures refl

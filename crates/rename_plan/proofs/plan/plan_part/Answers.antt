@@ -1,6 +1,6 @@
 use Rattle.rename_rules.specs.Renaming.{IsClassRenamed, IsRenamed}
-use Rattle.rename_plan.specs.Refusals.{refusal_of}
-use Rattle.rename_plan.proofs.PlanLemmas.{gives_also}
+use Rattle.offences.specs.Refusals.{refusal_of}
+use Rattle.offences.proofs.AnswerLemmas.{gives_also}
 use Rattle.rename_plan.proofs.plan.plan_part.Goals as goal
 
 pub returns-in-Some : goal.returns-in-Some

@@ -1,9 +1,10 @@
 use Rattle.std.proofs.Common.{◌≡◌, true, sym, ap, ◌∙◌}
 use Rattle.list_cuts.specs.Orders.{is_order}
 use Rattle.template_rules.specs.Lists.{count_of}
-use Rattle.template_rules.specs.Refusals.{refusal_of}
+use Rattle.offences.specs.Refusals.{refusal_of}
 use Rattle.template_rules.specs.Template.{IsOrdered, IsReordered}
-use Rattle.template_rules.proofs.PlanLemmas.{gives_also, no_function, no_order, ordered, order_told}
+use Rattle.offences.proofs.AnswerLemmas.{gives_also}
+use Rattle.template_rules.proofs.PlanLemmas.{no_function, no_order, ordered, order_told}
 use Rattle.template_rules.proofs.plan.plan_named.Goals as goal
 
 pub returns-then-not-has_functions : goal.returns-then-not-has_functions

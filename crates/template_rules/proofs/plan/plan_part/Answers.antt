@@ -1,6 +1,6 @@
-use Rattle.template_rules.specs.Refusals.{refusal_of}
+use Rattle.offences.specs.Refusals.{refusal_of}
 use Rattle.template_rules.specs.Template.{IsClassOrdered, IsOrdered}
-use Rattle.template_rules.proofs.PlanLemmas.{gives_also}
+use Rattle.offences.proofs.AnswerLemmas.{gives_also}
 use Rattle.template_rules.proofs.plan.plan_part.Goals as goal
 
 pub returns-in-Some : goal.returns-in-Some

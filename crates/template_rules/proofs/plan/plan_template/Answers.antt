@@ -1,7 +1,7 @@
 use Rattle.std.proofs.Common.{None, Some, refl}
-use Rattle.template_rules.specs.Refusals.{refusal_of}
+use Rattle.offences.specs.Refusals.{refusal_of}
 use Rattle.template_rules.specs.Template.{IsClassOrdered, IsTemplate}
-use Rattle.template_rules.proofs.PlanLemmas.{gives_also}
+use Rattle.offences.proofs.AnswerLemmas.{gives_also}
 use Rattle.template_rules.proofs.plan.plan_template.Goals as goal
 
 pub returns-in-Some : goal.returns-in-Some
