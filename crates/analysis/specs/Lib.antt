@@ -14,6 +14,7 @@ pub mod Classes
 pub mod Analysed
 pub mod Tables
 pub mod Counts
+pub mod Changed
 -- What inner functions promise each other.
 pub mod Carrying
 pub mod TokenSearch

@@ -26,7 +26,8 @@ use Rattle.rename_meaning.specs.EditedSource.{AreRespelled}
 use Rattle.rename_meaning.specs.Plans.{AreMade}
 use Rattle.rename_meaning.specs.RenamedSource.{IsAccepted}
 use Rattle.part_respell.specs.Respelled.{respelled as spelled_anew}
-use Rattle.renamed.specs.Renamed.{AnalysisIsRenamed, renamed_analysis, renaming_of}
+use Rattle.renamed.specs.Renamed.{AnalysisIsRenamed, renaming_of}
+use Rattle.analysis.specs.Changed.{renamed_analysis}
 use Rattle.rename_meaning.proofs.PlanLemmas.{IsPlan, is_plan, plan_respells, plan_accepted}
 use Rattle.rename_meaning.proofs.TextLemmas.{respelled_files_have_renamed_texts, respelled_files_have_renamed_analysis, respelled_files_keep_external_names}
 use Rattle.batch_run.specs.Renamed.{Renamed, IsRenamed}

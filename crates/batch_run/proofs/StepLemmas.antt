@@ -10,7 +10,8 @@ use Rattle.ws_file.specs.Workspace.{WorkspaceValue}
 use Rattle.analysis.specs.Analysis.{AnalysisValue}
 use Rattle.analysis.specs.Naming.{Names}
 use Rattle.kept_analysis.specs.Following.{IsRenamedIn}
-use Rattle.renamed.specs.Renamed.{renamed_analysis, renaming_of}
+use Rattle.renamed.specs.Renamed.{renaming_of}
+use Rattle.analysis.specs.Changed.{renamed_analysis}
 use Rattle.part_respell.specs.Respelled.{respelled}
 use Rattle.offences.specs.declared.refusals.Refusal.{Refusal}
 use Rattle.batch_run.specs.declared.stepping.Batching.{Batching}

@@ -22,7 +22,7 @@ use Rattle.edited_unit_laws.specs.Edited.{edited_carried}
 use Rattle.edited_unit_laws.specs.UnitTexts.{renamed_text}
 use Rattle.edited_unit_laws.proofs.WorkspaceLemmas.{workspaces_are_renamed, then-ok}
 use Rattle.edited_unit_laws.specs.Analyses.{IsRead, AreOfStandards, AnalysesHaveTexts, TextsHaveAnalyses, renamed_unit_analysis, renamed_units, renamed_analysis, ReadsAlike, UnitAnalysesAreRenamed, WorkspaceAnalysisIsRenamed}
-use Rattle.renamed.specs.Renamed.{texts_in}
+use Rattle.analysis.specs.Changed.{texts_in}
 use Rattle.edited_unit_laws.proofs.AloneLemmas.{ok-same}
 
 unmapped : {X E F : Type 0} (change : E → F) (r : Result X E) (x : X) → result_map_err change r ≡ Ok x → r ≡ Ok x

@@ -22,7 +22,7 @@ use Rattle.edited_unit_laws.specs.UnitTexts.{renamed_event}
 use Rattle.edited_unit_laws.specs.Analyses.{renamed_unit_analysis}
 use Rattle.edited_unit_laws.specs.FileTokens.{edited_entry, EntryIsRenamed, NamesLineAsBefore, FileTokensAreRenamed}
 use Rattle.edited_unit_laws.proofs.LinksLemmas.{both}
-use Rattle.renamed.specs.Renamed.{edited_from}
+use Rattle.analysis.specs.Changed.{edited_from}
 
 -- ---- files
 

@@ -5,7 +5,7 @@ use Rattle.std.specs.Option.{option_map}
 use Rattle.source_files.specs.Files.{Source, Found, Lines, Absent, Unopened, Opened, Made, Entry, Table}
 use Rattle.source_files.specs.Tables.{IsFound, AreFound}
 use Rattle.edited_unit_laws.specs.EditedFiles.{EditedTablesAreFound}
-use Rattle.renamed.specs.Renamed.{Editing, edited_found, edited_from}
+use Rattle.analysis.specs.Changed.{Editing, edited_found, edited_from}
 
 found-anew : (old new : Source) (edit : List ℕ → List ℕ) (path : List ℕ) (f : Found) → new path ≡ option_map edit (old path) → IsFound old path f → IsFound new path (edited_found edit f)
 found-anew old new edit path Lines h is = tt

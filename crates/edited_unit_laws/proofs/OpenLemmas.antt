@@ -30,7 +30,7 @@ use Rattle.edited_unit_laws.specs.Keeping.{Change, edited_files, KeepsFile, Keep
 use Rattle.edited_unit_laws.specs.Steps.{KeepsState, moved, GoesAlike, with_text, OpensAlike, Grows}
 use Rattle.edited_unit_laws.proofs.FollowLemmas.{later-grows, alike-reach}
 use Rattle.edited_unit_laws.proofs.TableLemmas.{number-edited, found-edited, grown-edited, asked-edited, opened-edited, files-edited, bytes-grown}
-use Rattle.renamed.specs.Renamed.{Editing, edited_found, edited_table}
+use Rattle.analysis.specs.Changed.{Editing, edited_found, edited_table}
 
 -- ---- searching
 

@@ -9,7 +9,7 @@ use Rattle.source_files.specs.Tables.{AreFound}
 use Rattle.unit_steps.specs.Texts.{UnitTextValue}
 use Rattle.analysis.specs.Analysis.{UnitAnalysis, UnitsValue, units_and, AnalysisValue, analysis_and, analysed_from}
 use Rattle.analysis.specs.Texts.{texts_and, UnitFault}
-use Rattle.renamed.specs.Renamed.{texts_in}
+use Rattle.analysis.specs.Changed.{texts_in}
 use Rattle.edited_unit_laws.specs.Analyses.{IsRead, AnalysesHaveTexts, TextsHaveAnalyses}
 use Rattle.edited_unit_laws.specs.Lines.{Each}
 use Rattle.edited_unit_laws.proofs.AloneLemmas.{ok-same}

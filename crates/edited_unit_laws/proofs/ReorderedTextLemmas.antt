@@ -14,7 +14,7 @@ use Rattle.include_tree.specs.Preprocessed.{Preprocessed, preprocessed_by, prepr
 use Rattle.include_tree.specs.Unit.{unit_outcome}
 use Rattle.analysis.specs.Analysis.{UnitAnalysis}
 use Rattle.analysis.specs.Texts.{TextsValue, texts_and, UnitFault, unit_fault, with_front, unit_with, texts_from}
-use Rattle.renamed.specs.Renamed.{texts_in}
+use Rattle.analysis.specs.Changed.{texts_in}
 use Rattle.edited_unit_laws.proofs.AloneLemmas.{ok-same}
 use Rattle.edited_unit_laws.proofs.UnitLemmas.{unit-grows}
 use Rattle.edited_unit_laws.proofs.WorkspaceLemmas.{then-ok}

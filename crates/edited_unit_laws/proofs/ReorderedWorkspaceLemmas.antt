@@ -1,5 +1,5 @@
 -- Files that stand in the new order, and units whose lists stand in them, make a workspace in the new order.
-use Rattle.renamed.specs.Renamed as page
+use Rattle.analysis.specs.Changed as page
 use Rattle.std.proofs.Common.{◌⊎◌, suc, ◌+◌, [], ◌∷◌, inl, inr, arith, ◌≡◌, ℕ, List, Option, Some, refl, ap, sym, subst, ◌∙◌}
 use Rattle.std.specs.Prelude.{slice_get}
 use Rattle.std.specs.Option.{option_map_or}

@@ -6,7 +6,7 @@ use Rattle.cs_base.specs.Token.{Token}
 use Rattle.cs_base.specs.Limits.{most_bytes}
 use Rattle.lexer.specs.FileText.{TextValue, LexFault, FileTooLarge, text_value, text_or_open, file_text}
 use Rattle.lexer.specs.Tokens.{tokens_of, firsts_of, open_comment_of}
-use Rattle.part_respell.specs.Respelled.{respelled}
+use Rattle.part_respell.specs.Respelled.{respelled, moved_to}
 use Rattle.macro_expand.specs.Renaming.{Renaming, renamed}
 use Rattle.source_files.specs.Files.{SourceFile, source_file}
 use Rattle.source_files.specs.Sources.{read_as, source_kept, source_at}
@@ -14,7 +14,6 @@ use Rattle.edited_unit_laws.specs.EditedTokens.{edited_token}
 use Rattle.edited_unit_laws.specs.Lines.{Each}
 use Rattle.edited_unit_laws.proofs.EditedTokenLemmas.{edited_files_keep_tokens}
 use Rattle.edited_unit_laws.specs.EditedFiles.{EditedFilesAreKept, RespelledFilesAreKept}
-use Rattle.renamed.specs.Renamed.{moved_to}
 use Rattle.edited_unit_laws.proofs.OpenLemmas.{file-same}
 
 text-same : (a b : TextValue) → ◌≡◌ {A = Result TextValue LexFault} (Ok a) (Ok b) → a ≡ b

@@ -18,7 +18,7 @@ use Rattle.edited_unit_laws.specs.Keeping.{Change}
 use Rattle.edited_unit_laws.specs.Renamed.{renamed_happening}
 use Rattle.edited_unit_laws.specs.UnitTexts.{renamed_link, renamed_event, renamed_text, renamed_unit, MovesMacro, UnitTextsAreRenamed}
 use Rattle.edited_unit_laws.proofs.UnitLemmas.{units_are_renamed}
-use Rattle.renamed.specs.Renamed.{edited_table}
+use Rattle.analysis.specs.Changed.{edited_table}
 
 -- ---- each note
 

@@ -5,7 +5,7 @@ use Rattle.std.specs.Str.{bytes_eq}
 use Rattle.std.proofs.lemmas.Bool.{cases_Bool}
 use Rattle.source_files.specs.Files.{Source, Found, Lines, Absent, Unopened, Opened, Made, Entry, entry, Table, number_of, found_at, found_in, numbered, asked, opened, opened_bytes, one_more, more_bytes, files_opened, bytes_opened}
 use Rattle.source_files.specs.Tables.{Becomes, IsGrown, IsFound, AreFound}
-use Rattle.renamed.specs.Renamed.{Editing, edited_found, edited_from, edited_table}
+use Rattle.analysis.specs.Changed.{Editing, edited_found, edited_from, edited_table}
 
 -- ---- what a path stands for
 

@@ -9,7 +9,7 @@ use Rattle.unit_steps.specs.Texts.{UnitTextValue}
 use Rattle.include_tree.specs.Preprocessed.{Preprocessed, preprocessed}
 use Rattle.analysis.specs.Analysis.{UnitAnalysis, UnitsValue, analysis_and, analysed_from}
 use Rattle.analysis.specs.Texts.{TextsValue, texts_and, UnitFault, unit_fault, with_front, unit_with, texts_from}
-use Rattle.renamed.specs.Renamed.{texts_in}
+use Rattle.analysis.specs.Changed.{texts_in}
 use Rattle.edited_unit_laws.specs.Analyses.{AnalysesHaveTexts}
 use Rattle.edited_unit_laws.proofs.AloneLemmas.{ok-same}
 use Rattle.edited_unit_laws.proofs.WorkspaceLemmas.{then-ok}

@@ -36,7 +36,7 @@ use Rattle.edited_unit_laws.proofs.FollowLemmas.{later-grows, onward-grows, alik
 use Rattle.edited_unit_laws.proofs.OpenLemmas.{open-alike, open-grows, alike-table}
 use Rattle.edited_unit_laws.proofs.TableLemmas.{push-edited, asked-edited, grown-push}
 use Rattle.edited_unit_laws.proofs.WalkLemmas.{both-alike, files-alike, files-grow}
-use Rattle.renamed.specs.Renamed.{edited_table}
+use Rattle.analysis.specs.Changed.{edited_table}
 
 -- ---- the macros that each unit begins with (6.10.8)
 

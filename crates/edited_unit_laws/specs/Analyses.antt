@@ -16,8 +16,8 @@ use Rattle.edited_unit_laws.specs.Edited.{edited_carried}
 use Rattle.edited_unit_laws.specs.Keeping.{Change}
 use Rattle.edited_unit_laws.specs.UnitTexts.{promised}
 use Rattle.edited_unit_laws.specs.WorkspaceTexts.{MacroNames, KeepsUnits}
-use Rattle.renamed.specs.Renamed.{edited_table, texts_in}
-use Rattle.renamed.specs.Renamed as page
+use Rattle.analysis.specs.Changed.{edited_table, texts_in}
+use Rattle.analysis.specs.Changed as page
 
 -- ---- what an analysis is made of
 

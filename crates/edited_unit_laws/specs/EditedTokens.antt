@@ -6,8 +6,7 @@ use Rattle.cs_base.specs.Token.{Token, token}
 use Rattle.lexer.specs.Places.{pos, origins_from}
 use Rattle.lexer.specs.Respelling.{KeepsPieces}
 use Rattle.lexer.specs.Tokens.{tokens_of, firsts_of, open_comment_of}
-use Rattle.part_respell.specs.Respelled.{put_of, respelled, spelled}
-use Rattle.renamed.specs.Renamed.{moved_to}
+use Rattle.part_respell.specs.Respelled.{put_of, respelled, spelled, moved_to}
 
 -- A token of the file in which each member is replaced by the name, at the place to which it moves: kind, white
 -- space, line and directness stay.

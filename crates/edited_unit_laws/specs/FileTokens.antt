@@ -11,7 +11,7 @@ use Rattle.analysis.specs.FileTokens.{entry_tokens, file_tokens}
 use Rattle.edited_unit_laws.specs.Lines.{Each}
 use Rattle.edited_unit_laws.specs.Keeping.{Change}
 use Rattle.edited_unit_laws.specs.Analyses.{renamed_analysis}
-use Rattle.renamed.specs.Renamed.{Editing, edited_found}
+use Rattle.analysis.specs.Changed.{Editing, edited_found}
 
 -- an entry, edited
 abbrev pub edited_entry : Editing → ℕ → Entry → Entry

@@ -18,7 +18,7 @@ use Rattle.source_files.specs.Limits.{the_limits}
 use Rattle.unit_steps.specs.Notes.{Note, Happened, Defined, Undefined, Tested, Left, Named}
 use Rattle.source_files.specs.Sources.{source_at}
 use Rattle.edited_unit_laws.specs.Lines.{Each, KeepsToken, KeepsLine}
-use Rattle.renamed.specs.Renamed.{Editing, edited_table}
+use Rattle.analysis.specs.Changed.{Editing, edited_table}
 
 -- A change of files: which tokens occur in them, how these are renamed, how the files are edited, and the files that
 -- the units have in the end.

@@ -6,7 +6,7 @@ use Rattle.unit_steps.specs.Notes.{Note, Reaches, Happened, Defined, Undefined, 
 use Rattle.include_tree.specs.Sections.{Section, section}
 use Rattle.unit_steps.specs.State.{State}
 use Rattle.include_tree.specs.Walk.{Stepped, stepped}
-use Rattle.renamed.specs.Renamed.{Editing, edited_table}
+use Rattle.analysis.specs.Changed.{Editing, edited_table}
 
 -- what happens, renamed: counts, and the numbers of files and items, stay
 abbrev pub renamed_happening : Renaming → Note → Note

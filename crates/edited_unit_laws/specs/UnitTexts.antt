@@ -19,8 +19,8 @@ use Rattle.include_tree.specs.Unit.{unit_outcome}
 use Rattle.edited_unit_laws.specs.Lines.{Each}
 use Rattle.edited_unit_laws.specs.Edited.{edited_carried}
 use Rattle.edited_unit_laws.specs.Keeping.{Change, KeepsUnit}
-use Rattle.renamed.specs.Renamed.{Editing}
-use Rattle.renamed.specs.Renamed as page
+use Rattle.analysis.specs.Changed.{Editing}
+use Rattle.analysis.specs.Changed as page
 
 -- a renaming without the spellings of macros' names: what is promised of a rename knows no macro
 abbrev pub promised : Renaming → page.Renaming

@@ -13,7 +13,7 @@ use Rattle.edited_unit_laws.specs.Lines.{Each}
 use Rattle.edited_unit_laws.specs.Edited.{edited_carried}
 use Rattle.edited_unit_laws.specs.Keeping.{Change, KeepsUnit}
 use Rattle.edited_unit_laws.specs.UnitTexts.{promised, MovesMacro}
-use Rattle.renamed.specs.Renamed as page
+use Rattle.analysis.specs.Changed as page
 
 -- The new spellings of macros' names, by the number of a unit and the old spelling: each unit has its own.
 abbrev pub MacroNames : Type 0

@@ -6,7 +6,7 @@ use Rattle.lexer.specs.FileText.{TextValue, file_text}
 use Rattle.ws_file.specs.Workspace.{WorkspaceValue}
 use Rattle.source_files.specs.Files.{Source, Found, Unopened, Opened, entry, Table}
 use Rattle.analysis.specs.Analysis.{UnitAnalysis, units_and, AnalysisValue, analysis_of}
-use Rattle.renamed.specs.Renamed.{Editing, edited_table}
+use Rattle.analysis.specs.Changed.{Editing, edited_table}
 use Rattle.list_cuts.specs.Cuts.{Cut, done, IsOrder, AreOf}
 use Rattle.unit_laws.specs.Edited.{Edit, edited_files, IsEditedSource}
 use Rattle.unit_laws.specs.Files.{FileCuts, TextStands, RunsMark}

@@ -6,7 +6,8 @@ use Rattle.cs_base.specs.declared.positions.Part.{Part}
 use Rattle.eclass_map.specs.ClassTable.{Table, HasParts, class_in, members_of}
 use Rattle.eclass_map.specs.Resized.{Resizes}
 use Rattle.analysis.specs.Below.lexer.Spelling.{is_identifier_text}
-use Rattle.renamed.specs.Renamed.{Renaming, renamed_analysis, renamed_unit_analysis, renaming_of}
+use Rattle.renamed.specs.Renamed.{renaming_of}
+use Rattle.analysis.specs.Changed.{renamed_analysis, renamed_unit_analysis}
 use Rattle.include_tree.specs.Below.source_files.Files.{Table as Files}
 use Rattle.ws_file.specs.Workspace.{WorkspaceValue}
 use Rattle.analysis.specs.Analysed.{Analysed, analysed}

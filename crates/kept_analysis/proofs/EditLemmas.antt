@@ -9,7 +9,7 @@ use Rattle.include_tree.specs.Below.source_files.Edited.{TooManyBytes, edited, e
 use Rattle.include_tree.specs.Below.source_files.Files.{Table, Found, Lines, Absent, Unopened, Opened, Made, entry, bytes_opened}
 use Rattle.include_tree.specs.Below.source_files.KeptFiles.{KeptValue, kept, kept_in, kept_at}
 use Rattle.include_tree.specs.Below.source_files.Limits.{the_limits}
-use Rattle.renamed.specs.Renamed.{Editing}
+use Rattle.analysis.specs.Changed.{Editing}
 use Rattle.kept_analysis.specs.Edits.{kept_edited, edited_one, edited_front, IsNew}
 
 -- ---- what an edit that is made gives

@@ -10,10 +10,11 @@ use Rattle.eclass_map.specs.Positions.{along, holds}
 use Rattle.eclass_map.proofs.TokenFacts.{holding, holds_from, along_of}
 use Rattle.analysis.specs.Below.lexer.Places.{pos, origins_from}
 use Rattle.analysis.specs.Below.lexer.Respelling.{Put as Putting, respell, edited}
-use Rattle.part_respell.specs.Respelled.{member_over, put_in as what_in, put_at as what_at, put_for, put_of as putting, respelled}
+use Rattle.part_respell.specs.Respelled.{member_over, put_in as what_in, put_at as what_at, put_for, put_of as putting, respelled, moved_to}
 use Rattle.include_tree.specs.Below.source_files.Files.{Table, Entry, Found, Lines, Absent, Unopened, Opened, Made, entry}
 use Rattle.include_tree.specs.Below.source_files.KeptFiles.{KeptValue, kept_in, kept_at}
-use Rattle.renamed.specs.Renamed.{Renaming, edited_found, edited_from, spell_from, trace_from, origins_for, move_to, moved_to, moved_in, renaming_of, renamed_analysis, renamed_unit_analysis}
+use Rattle.renamed.specs.Renamed.{spell_from, trace_from, origins_for, move_to, moved_in, renaming_of}
+use Rattle.analysis.specs.Changed.{Renaming, edited_found, edited_from, renamed_analysis, renamed_unit_analysis}
 use Rattle.analysis.specs.Analysed.{Analysed}
 use Rattle.analysis.specs.Analysis.{analysis_and}
 use Rattle.analysis.specs.Parts.{IsCharacter, IsPart}

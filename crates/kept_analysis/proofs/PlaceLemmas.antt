@@ -11,8 +11,7 @@ use Rattle.analysis.specs.Below.lexer.Lines.{byte_offset_of}
 use Rattle.analysis.specs.Below.lexer.Logical.{Character as ALogical, gone_length, logical_from, logical_of}
 use Rattle.analysis.specs.Below.lexer.Places.{pos}
 use Rattle.analysis.specs.Below.lexer.Respelling.{Put as Putting, respell}
-use Rattle.part_respell.specs.Respelled.{member_over, put_in as what_in, put_at as what_at, put_of as putting}
-use Rattle.renamed.specs.Renamed.{moved_to}
+use Rattle.part_respell.specs.Respelled.{member_over, put_in as what_in, put_at as what_at, put_of as putting, moved_to}
 use Rattle.kept_analysis.specs.declared.puts.Put.{Put}
 use Rattle.kept_analysis.specs.declared.puts.Put.TheVariants.{Character, Name, Nothing}
 use Rattle.kept_analysis.specs.Moves.{text_for, size_of, put_of, put_at, ArePuts, text_in, ArePlaces}

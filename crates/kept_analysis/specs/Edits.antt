@@ -7,7 +7,7 @@ use Rattle.analysis.specs.Below.lexer.Respelling.{Put, edited}
 use Rattle.part_respell.specs.Walk.{edited_at}
 use Rattle.include_tree.specs.Below.source_files.Files.{Table, Found, Lines, Absent, Unopened, Opened, Made, entry}
 use Rattle.include_tree.specs.Below.source_files.KeptFiles.{KeptValue}
-use Rattle.renamed.specs.Renamed.{Editing}
+use Rattle.analysis.specs.Changed.{Editing}
 
 -- a kept file with its new bytes; what is not kept stays
 abbrev pub kept_edited : (List ℕ → List ℕ) → Found → Found

@@ -7,10 +7,10 @@ use Rattle.cs_base.specs.declared.positions.Pos.{Pos}
 use Rattle.analysis.specs.Below.lexer.Logical.{logical_of, spelling}
 use Rattle.analysis.specs.Below.lexer.Places.{pos, origins_from}
 use Rattle.analysis.specs.Below.lexer.Respelling.{edited}
-use Rattle.part_respell.specs.Respelled.{member_over}
+use Rattle.part_respell.specs.Respelled.{member_over, moved_to}
 use Rattle.include_tree.specs.Below.source_files.Files.{Table}
 use Rattle.include_tree.specs.Below.source_files.KeptFiles.{KeptValue, kept_at}
-use Rattle.renamed.specs.Renamed.{Editing, Renaming, moved_to}
+use Rattle.analysis.specs.Changed.{Editing, Renaming}
 use Rattle.kept_analysis.specs.declared.puts.Put.{Put}
 use Rattle.kept_analysis.specs.declared.puts.Put.TheVariants.{Character, Name, Nothing}
 use Rattle.kept_analysis.specs.declared.moves.FileMove.{FileMove}

@@ -2,7 +2,7 @@
 ghost use Rattle.std.specs.Prelude.{◌≡◌, ◌++◌, ◌∷◌, [], ◌≤◌, IfOk, OnOk, Some, None, length, map};
 ghost use Rattle.cs_base.specs.Token.{IsToken, IsTraced, token};
 ghost use Rattle.analysis.specs.Below.lexer.Places.{origins_from};
-ghost use Rattle.renamed.specs.Renamed.{renamed_token, renamed_link};
+ghost use Rattle.analysis.specs.Changed.{renamed_token, renamed_link};
 ghost use Rattle.kept_analysis.specs.Moves.{put_by, renaming_by, spell_by, spell_of, trace_by, trace_of};
 
 use crate::moves::Moves;

@@ -27,7 +27,8 @@ use Rattle.edited_unit_laws.specs.Analyses.{ReadsAlike}
 use Rattle.rename_rules.specs.Tokens.{pasted_tokens, holders}
 use Rattle.offences.specs.Tokens.{holds_member}
 use Rattle.edited_unit_laws.proofs.ListLemmas.{In, in_flat, any_at}
-use Rattle.renamed.specs.Renamed.{Renaming, spell_from, renaming_of, renamed_analysis, renamed_unit_analysis, ExternalName, external_name, external_if, external_at, is_one_entity, denote_one}
+use Rattle.renamed.specs.Renamed.{spell_from, renaming_of}
+use Rattle.analysis.specs.Changed.{Renaming, renamed_analysis, renamed_unit_analysis, ExternalName, external_name, external_if, external_at, is_one_entity, denote_one}
 use Rattle.meaning_rows.specs.Rows.{member}
 use Rattle.meaning_rows.specs.Shared.{TwoUnits, Tokens, Has, AreOf, StandsAgainst, KeepsEachReading, BreaksSharing, KeepsDeclared, declared_name, two_names}
 use Rattle.meaning_rows.proofs.OffenceLemmas.{clashes_at, clash_stands}

@@ -22,7 +22,8 @@ use Rattle.analysis.specs.Analysis.{UnitAnalysis, AnalysisValue}
 use Rattle.edited_unit_laws.specs.Analyses.{IsRead}
 use Rattle.offences.specs.First.{IsAmong, offence}
 use Rattle.rename_rules.specs.Offences.{offences_of}
-use Rattle.renamed.specs.Renamed.{AnalysisIsRenamed, ExternalNamesAreKept, denote_one, renamed_analysis, renaming_of}
+use Rattle.renamed.specs.Renamed.{AnalysisIsRenamed, ExternalNamesAreKept, renaming_of}
+use Rattle.analysis.specs.Changed.{denote_one, renamed_analysis}
 use Rattle.part_respell.specs.Respelled.{respelled}
 use Rattle.meaning_rows.specs.Clause.{UnitsReadAlike}
 use Rattle.meaning_rows.specs.Rows.{member, row_limits}

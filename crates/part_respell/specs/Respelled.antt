@@ -6,8 +6,9 @@ use Rattle.cs_base.specs.declared.positions.Part.{Part}
 use Rattle.cs_base.specs.declared.positions.Pos.{Pos}
 use Rattle.cs_base.specs.Token.{Token}
 use Rattle.eclass_map.specs.Positions.{holds}
+use Rattle.lexer.specs.Logical.{logical_of, spelling}
 use Rattle.lexer.specs.Places.{pos}
-use Rattle.lexer.specs.Respelling.{Put, edited}
+use Rattle.lexer.specs.Respelling.{Put, edited, moved}
 
 -- the member that holds a character, if one does
 abbrev pub member_over : List Part → Pos → Option Part
@@ -28,6 +29,10 @@ put_of members name file at c = put_at members name (pos file at) c
 -- The bytes of a file with these members: line splices and white space stay where they stand.
 unfoldable pub respelled : List Part → List ℕ → ℕ → List ℕ → List ℕ
 respelled members name file bytes = edited (put_of members name file) bytes
+
+-- the place to which a character of a file with these bytes moves
+abbrev pub moved_to : List Part → List ℕ → ℕ → List ℕ → ℕ → ℕ
+moved_to members name file bytes at = moved (put_of members name file) (spelling (logical_of bytes)) at
 
 -- what stands for a character with this origin; one that comes from no file stays
 abbrev pub put_for : List Part → List ℕ → Option Pos → ℕ → List ℕ

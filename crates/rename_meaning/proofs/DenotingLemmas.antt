@@ -19,7 +19,7 @@ use Rattle.scope_bind.specs.declared.bound.Name.{Name}
 use Rattle.scope_bind.specs.Names.{entity_at, linkage_at}
 use Rattle.tree_laws.proofs.HeldNames.{spelled_as_entities}
 use Rattle.edited_unit_laws.specs.Analyses.{renamed_unit_analysis, renamed_analysis}
-use Rattle.renamed.specs.Renamed.{ExternalName, external_name, external_if, external_at, is_one_entity, denote_one}
+use Rattle.analysis.specs.Changed.{ExternalName, external_name, external_if, external_at, is_one_entity, denote_one}
 use Rattle.analysis.specs.Analysed.{Analysed}
 use Rattle.analysis.specs.Analysis.{UnitAnalysis, AnalysisValue}
 use Rattle.analysis.specs.Links.{is_bound_to, is_external_name, external_names_from, names_of_unit, names_of_units}

@@ -21,7 +21,7 @@ use Rattle.unit_steps.specs.Texts.{UnitTextValue, text_of}
 use Rattle.include_tree.specs.PseudoFiles.{is_pseudo}
 use Rattle.analysis.specs.Below.eclass_map.Positions.{holds}
 use Rattle.analysis.proofs.Below.eclass_map.TokenFacts.{holding}
-use Rattle.part_respell.specs.Respelled.{member_over, put_in, put_of, respelled}
+use Rattle.part_respell.specs.Respelled.{member_over, put_in, put_of, respelled, moved_to}
 use Rattle.analysis.specs.Tables.{IsPseudoIfMade, MadeArePseudo}
 use Rattle.analysis.proofs.MadeLemmas.{made_files_pseudo}
 use Rattle.edited_unit_laws.specs.Lines.{Each, KeepsToken, KeepsLine}
@@ -47,7 +47,7 @@ use Rattle.edited_unit_laws.proofs.TracedLemmas.{source_of_kept}
 use Rattle.rename_meaning.specs.KeptUnits.{change_by}
 use Rattle.rename_meaning.specs.Limits.{AreWithinLimits}
 use Rattle.rename_meaning.proofs.FoundLemmas.{analysis_finds}
-use Rattle.renamed.specs.Renamed.{Editing, edited_found, edited_from, edited_table, moved_to}
+use Rattle.analysis.specs.Changed.{Editing, edited_found, edited_from, edited_table}
 
 -- ---- files without members
 

@@ -36,7 +36,7 @@ use Rattle.rename_meaning.specs.Limits.{AreWithinLimits}
 use Rattle.rename_meaning.proofs.AlikeLineLemmas.{lines_stay_alike_where_named}
 use Rattle.rename_meaning.proofs.KeptNoteLemmas.{unit_kept, macros_move}
 use Rattle.rename_meaning.proofs.SizeLemmas.{edited_files_are_within_limits}
-use Rattle.renamed.specs.Renamed.{texts_in}
+use Rattle.analysis.specs.Changed.{texts_in}
 
 -- what a unit without a fault gives
 abbrev given : Carried → Did (List Token) → Preprocessed

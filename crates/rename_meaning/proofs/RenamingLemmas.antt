@@ -13,7 +13,7 @@ use Rattle.lexer.proofs.OriginLemmas.{length-origins}
 use Rattle.unit_steps.specs.Below.macro_expand.Renaming.{renamed}
 use Rattle.source_files.specs.KeptFiles.{KeptValue, kept_at}
 use Rattle.unit_steps.specs.Texts.{UnitTextValue}
-use Rattle.part_respell.specs.Respelled.{member_over, put_in, put_at, put_of, put_for, spelled, spelled_from}
+use Rattle.part_respell.specs.Respelled.{member_over, put_in, put_at, put_of, put_for, spelled, spelled_from, moved_to}
 use Rattle.edited_unit_laws.specs.EditedTokens.{edited_token, EditedFilesKeepTokens}
 use Rattle.analysis.specs.Analysis.{AnalysisValue}
 use Rattle.analysis.proofs.PlaceNameLemmas.{kept_number}
@@ -23,7 +23,7 @@ use Rattle.rename_meaning.specs.Renamings.{renaming, RenamingsSpell, EditedFiles
 use Rattle.edited_unit_laws.proofs.ListLemmas.{In}
 use Rattle.edited_unit_laws.proofs.FileLemmas.{StandsIn, token_stands}
 use Rattle.rename_meaning.proofs.KeptLemmas.{files_keep_pieces}
-use Rattle.renamed.specs.Renamed.{moved_to, spell_from, moved_in, move_to, origins_for, trace_from}
+use Rattle.renamed.specs.Renamed.{spell_from, moved_in, move_to, origins_for, trace_from}
 
 -- ---- spellings
 

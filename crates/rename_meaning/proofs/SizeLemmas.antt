@@ -27,7 +27,7 @@ use Rattle.rename_meaning.proofs.FoundLemmas.{AreReal, IsReal, analysis_real}
 use Rattle.rename_meaning.proofs.KeptFileLemmas.{respelled_same}
 use Rattle.rename_meaning.proofs.MemberOrderLemmas.{StandTogether, members_together}
 use Rattle.rename_meaning.proofs.RunLemmas.{run_of, rest_of, runs_are, rest_less, rest_together, rest_respelled, rest_edited, size_by, run_size, sizes_small, cond_none, not_more}
-use Rattle.renamed.specs.Renamed.{edited_found, edited_from}
+use Rattle.analysis.specs.Changed.{edited_found, edited_from}
 
 -- ---- sizes of all edited files
 

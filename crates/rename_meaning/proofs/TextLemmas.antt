@@ -10,7 +10,7 @@ use Rattle.analysis.specs.Analysis.{AnalysisValue}
 use Rattle.analysis.specs.Naming.{Names}
 use Rattle.analysis.specs.Texts.{UnitFault}
 use Rattle.edited_unit_laws.specs.Analyses.{renamed_analysis}
-use Rattle.renamed.specs.Renamed.{denote_one}
+use Rattle.analysis.specs.Changed.{denote_one}
 use Rattle.analysis.proofs.ClassLemmas.{part_held}
 use Rattle.rename_meaning.specs.Allowed.{IsAllowed}
 use Rattle.edited_unit_laws.proofs.AnalysedUnitLemmas.{ok_same}

@@ -8,7 +8,7 @@ use Rattle.edited_unit_laws.specs.Links.{KeepsLinks}
 use Rattle.edited_unit_laws.specs.UnitTexts.{renamed_link}
 use Rattle.analysis.specs.Analysed.{Analysed}
 use Rattle.analysis.specs.Links.{links_of}
-use Rattle.renamed.specs.Renamed.{denote_one}
+use Rattle.analysis.specs.Changed.{denote_one}
 use Rattle.rename_meaning.specs.Allowed.{IsAllowed}
 use Rattle.rename_meaning.specs.KeptTokens.{Spells}
 use Rattle.rename_meaning.specs.KeptUnits.{change}

@@ -20,7 +20,8 @@ use Rattle.rename_meaning.specs.KeptLines.{LinesStayAlike}
 use Rattle.rename_meaning.specs.Occurring.{occurring_in}
 use Rattle.rename_meaning.specs.Renamings.{name_for}
 use Rattle.rename_meaning.specs.Limits.{AreWithinLimits}
-use Rattle.renamed.specs.Renamed.{move_to, spell_from, trace_from, texts_in}
+use Rattle.renamed.specs.Renamed.{move_to, spell_from, trace_from}
+use Rattle.analysis.specs.Changed.{texts_in}
 
 -- ---- the change that spelling the members of a class otherwise makes
 

@@ -12,7 +12,7 @@ use Rattle.analysis.specs.Analysed.{Analysed}
 use Rattle.analysis.specs.Analysis.{AnalysisValue}
 use Rattle.analysis.specs.Naming.{Names}
 use Rattle.rename_meaning.specs.Allowed.{IsAllowed}
-use Rattle.renamed.specs.Renamed.{edited_table}
+use Rattle.analysis.specs.Changed.{edited_table}
 
 -- The edited files are within the limits: each by itself, if it was, and all that are opened together.
 pub record AreWithinLimits (a : AnalysisValue) (members : List Part) (name : List ℕ) : Type 0 where

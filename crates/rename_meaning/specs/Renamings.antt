@@ -13,13 +13,13 @@ use Rattle.macro_body.specs.Substitution.{digit_origins}
 use Rattle.unit_steps.specs.declared.events.Event.{Event}
 use Rattle.source_files.specs.KeptFiles.{KeptValue, kept_at}
 use Rattle.unit_steps.specs.Texts.{UnitTextValue}
-use Rattle.part_respell.specs.Respelled.{respelled, spelled}
+use Rattle.part_respell.specs.Respelled.{respelled, spelled, moved_to}
 use Rattle.analysis.specs.Analysed.{Analysed}
 use Rattle.analysis.specs.Analysis.{AnalysisValue}
 use Rattle.rename_meaning.specs.Allowed.{IsAllowed}
 use Rattle.rename_meaning.specs.KeptFiles.{WordsAreFree}
 use Rattle.rename_meaning.specs.KeptTokens.{Spells}
-use Rattle.renamed.specs.Renamed.{moved_to, spell_from, move_to, trace_from}
+use Rattle.renamed.specs.Renamed.{spell_from, move_to, trace_from}
 
 -- the names of which the events of a unit tell
 abbrev pub name_in : Event → List Token

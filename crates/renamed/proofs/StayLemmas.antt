@@ -3,7 +3,7 @@ use Rattle.std.proofs.Common.{◌≡◌, ℕ, suc, List, [], ◌∷◌, map, ref
 use Rattle.cs_base.specs.Token.{Token}
 use Rattle.analysis.specs.Below.source_files.Files.{Table, Entry}
 use Rattle.analysis.specs.Analysis.{UnitAnalysis}
-use Rattle.renamed.specs.Renamed.{Editing, renamed_token, renamed_unit_analysis, edited_from}
+use Rattle.analysis.specs.Changed.{Editing, renamed_token, renamed_unit_analysis, edited_from}
 use Rattle.renamed.specs.Staying.{RenamedTokensStay, EditedPathsStay, RenamedUnitsStay}
 
 -- what is the same of each element is so of the list

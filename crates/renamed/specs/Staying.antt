@@ -4,7 +4,7 @@ use Rattle.cs_base.specs.Token.{Token}
 use Rattle.analysis.specs.Below.source_files.Files.{Table}
 use Rattle.analysis.specs.Below.unit_steps.Texts.{UnitTextValue}
 use Rattle.analysis.specs.Analysis.{UnitAnalysis, AnalysisValue}
-use Rattle.renamed.specs.Renamed.{Renaming, Editing, renamed_text, renamed_analysis, edited_table}
+use Rattle.analysis.specs.Changed.{Renaming, Editing, renamed_text, renamed_analysis, edited_table}
 
 -- Tokens, one for each: of the same kinds, with the same white space before them, on the same lines, directly there or not.
 pub record TokensStay (old new : List Token) : Type 0 where

@@ -17,7 +17,7 @@ use Rattle.c_types.specs.declared.entity.Linkage.TheVariants.{External}
 use Rattle.scope_bind.specs.declared.bound.Name.{Name}
 use Rattle.scope_bind.specs.Names.{name_at, entity_at, linkage_at}
 use Rattle.analysis.specs.Analysis.{UnitAnalysis, AnalysisValue}
-use Rattle.renamed.specs.Renamed.{ExternalName, external_name, external_if, external_at, is_one_entity}
+use Rattle.analysis.specs.Changed.{ExternalName, external_name, external_if, external_at, is_one_entity}
 use Rattle.list_cuts.specs.Cuts.{Cut, arranged}
 use Rattle.list_cuts.proofs.CutLemmas.{arranged-map, length-arranged}
 use Rattle.reordered_tree_laws.proofs.MovedPlaces.{moved-beyond, texts_spelled}

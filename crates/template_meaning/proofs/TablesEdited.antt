@@ -12,8 +12,8 @@ use Rattle.source_files.specs.Files.{Source, Found, Lines, Absent, Unopened, Ope
 use Rattle.source_files.specs.KeptFiles.{KeptValue, kept_at, kept_in, kept_bytes}
 use Rattle.source_files.specs.Tables.{HasEachOnce, paths_in}
 use Rattle.analysis.specs.Analysis.{AnalysisValue}
-use Rattle.renamed.specs.Renamed.{Editing, edited_from, edited_table}
-use Rattle.renamed.specs.Renamed as numbered
+use Rattle.analysis.specs.Changed.{Editing, edited_from, edited_table}
+use Rattle.analysis.specs.Changed as numbered
 use Rattle.edited_unit_laws.proofs.ListLemmas.{any_at}
 use Rattle.list_cuts.specs.Spans.{all_rearranged}
 use Rattle.unit_laws.specs.Edited.{Edit, edited_found, edited_entry, edited_files, edited_source}

@@ -15,7 +15,7 @@ use Rattle.lexer.specs.Tokens.{tokens_of}
 use Rattle.source_files.specs.Files.{Source}
 use Rattle.ws_file.specs.Workspace.{WorkspaceValue}
 use Rattle.analysis.specs.Analysis.{UnitAnalysis, AnalysisValue, analysis_of}
-use Rattle.renamed.specs.Renamed.{edited_table, denote_one}
+use Rattle.analysis.specs.Changed.{edited_table, denote_one}
 use Rattle.list_cuts.specs.Cuts.{Cut, arranged, moved}
 use Rattle.list_cuts.specs.Spans.{all_rearranged}
 use Rattle.template_rules.specs.FileLists.{all_found, lists_in, items_of}

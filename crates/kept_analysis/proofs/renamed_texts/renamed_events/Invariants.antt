@@ -1,5 +1,5 @@
 use Rattle.std.proofs.Common.{◌≡◌, map, take}
-use Rattle.renamed.specs.Renamed.{renamed_event}
+use Rattle.analysis.specs.Changed.{renamed_event}
 use Rattle.kept_analysis.specs.Moves.{renaming_by}
 use Rattle.kept_analysis.proofs.renamed_texts.renamed_events.Given as goal
 

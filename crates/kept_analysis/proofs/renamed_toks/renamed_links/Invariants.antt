@@ -1,5 +1,5 @@
 use Rattle.std.proofs.Common.{◌≡◌, map, take}
-use Rattle.renamed.specs.Renamed.{renamed_link}
+use Rattle.analysis.specs.Changed.{renamed_link}
 use Rattle.kept_analysis.specs.Moves.{renaming_by}
 use Rattle.kept_analysis.proofs.renamed_toks.renamed_links.Given as goal
 

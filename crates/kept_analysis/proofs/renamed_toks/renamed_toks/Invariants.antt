@@ -1,5 +1,5 @@
 use Rattle.std.proofs.Common.{◌≡◌, map, take}
-use Rattle.renamed.specs.Renamed.{renamed_token}
+use Rattle.analysis.specs.Changed.{renamed_token}
 use Rattle.kept_analysis.specs.Moves.{renaming_by}
 use Rattle.kept_analysis.proofs.renamed_toks.renamed_toks.Given as goal
 
