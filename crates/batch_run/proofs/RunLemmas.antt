@@ -12,7 +12,7 @@ use Rattle.analysis.specs.Analysis.{AnalysisValue, analysis_of}
 use Rattle.batch_run.specs.declared.running.Batched.{Batched}
 use Rattle.batch_run.specs.declared.stepping.Batching.{Batching}
 use Rattle.batch_run.specs.Batch.{Plan, IsLine, IsBatch, after, after_each, plan_text, is_refused}
-use Rattle.batch_run.specs.Renamed.{KeepsLine, KeepsLines}
+use Rattle.batch_run.specs.Keeping.{KeepsLine, KeepsLines}
 use Rattle.batch_run.specs.Running.{IsRun}
 use Rattle.batch_run.specs.Stepping.{AreOf, IsReady, RunTo, Steps}
 use Rattle.batch_run.proofs.SettledAnalyses.{analysis_settles, kept_agree, kept_files}

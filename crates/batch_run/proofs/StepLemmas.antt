@@ -10,15 +10,13 @@ use Rattle.ws_file.specs.Workspace.{WorkspaceValue}
 use Rattle.analysis.specs.Analysis.{AnalysisValue}
 use Rattle.analysis.specs.Naming.{Names}
 use Rattle.kept_analysis.specs.Following.{IsRenamedIn}
-use Rattle.renamed.specs.Renamed.{renaming_of}
-use Rattle.analysis.specs.Changed.{renamed_analysis}
-use Rattle.part_respell.specs.Respelled.{respelled}
+use Rattle.renamed.specs.Rename.{RenamesOver}
 use Rattle.offences.specs.declared.refusals.Refusal.{Refusal}
 use Rattle.batch_run.specs.declared.stepping.Batching.{Batching}
 use Rattle.batch_run.specs.Batch.{plan_text}
-use Rattle.batch_run.specs.Renamed.{KeepsLine}
+use Rattle.batch_run.specs.Keeping.{KeepsLine}
 use Rattle.batch_run.specs.Stepping.{IsOver, IsAnswered, Steps}
-use Rattle.batch_run.proofs.RenamedLemmas.{Accepted, accepted, IsPlanned, followed_is, renamed_analysis_there, line_is_kept}
+use Rattle.batch_run.proofs.KeepingLemmas.{line_is_kept, analysis_goes_on}
 
 or_false : (b : Bool) → b ≡ (b || false)
 or_false true = refl
@@ -30,14 +28,12 @@ or_true false = refl
 
 -- an accepted line
 pub accepted_steps : (ws : WorkspaceValue) (q : LineValue) (new : List Edit) (part : Part) (old s : Batching)
-    → IsPlanned ws old.analysis.value → IsAnswered old q (Ok new) → IsKept new → IsKept old.edits
+    → RenamesOver old.analysis.value.workspace old.analysis.value q.path q.line q.column q.name q.strings new → IsAnswered old q (Ok new) → IsKept new → IsKept old.edits
     → Names old.analysis.value q.path q.line q.column (Some part) → IsRenamedIn old.analysis.value part q.name s.analysis.value
     → s.text.items ≡ old.text.items ++ plan_text (Ok new) → s.refused ≡ old.refused → s.edits ≡ with_each new old.edits
     → Steps ws q (Ok new) old s
-accepted_steps ws q new part old s planned answered sound sound' named follows text_is refused_is edits_are =
+accepted_steps ws q new part old s renames answered sound sound' named follows text_is refused_is edits_are =
     let a : AnalysisValue = old.analysis.value in
-    let c : Accepted q a new = accepted q a new answered in
-    let there : s.analysis.value ≡ renamed_analysis (renaming_of a c.members q.name) (respelled c.members q.name) a = followed_is ws q a new part named c s.analysis.value follows in
     let put = λ (files : FileMap). put_each new old.edits files sound.sorted sound'.sorted in
     record {
       text_is = text_is;
@@ -46,11 +42,10 @@ accepted_steps ws q new part old s planned answered sound sound' named follows t
       line = λ files over. (a, over, answered);
       keeps = λ files over.
           subst (λ (es : List Edit). KeepsLine ws q (with_edits old.edits files) (with_edits es files) (Ok new)) (sym edits_are)
-          (line_is_kept ws q a new planned c (with_edits old.edits files) (with_edits (with_each new old.edits) files) over (put files));
+          (line_is_kept ws q a new renames (with_edits old.edits files) (with_edits (with_each new old.edits) files) over (put files));
       goes_on = λ files over.
           subst (λ (es : List Edit). IsOver ws files es s.analysis.value) (sym edits_are)
-          (subst (λ (b : AnalysisValue). IsOver ws files (with_each new old.edits) b) (sym there)
-          (renamed_analysis_there ws q a new planned c (with_edits old.edits files) (with_edits (with_each new old.edits) files) over (put files)));
+          (analysis_goes_on ws q a new renames (with_edits old.edits files) (with_edits (with_each new old.edits) files) over (put files) part s.analysis.value named follows);
     }
 
 -- a refused line

@@ -3,7 +3,7 @@ pub mod Line
 pub mod Reading
 pub mod Refusal
 pub mod Batch
-pub mod Renamed
+pub mod Keeping
 pub mod Running
 -- What inner functions promise each other.
 pub mod Taking

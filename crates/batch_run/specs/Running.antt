@@ -11,7 +11,7 @@ use Rattle.analysis.specs.Answers.{fault_of}
 use Rattle.analysis.specs.declared.analyse_fault.AnalyseFault.{AnalyseFault}
 use Rattle.batch_run.specs.declared.running.Batched.{Batched}
 use Rattle.batch_run.specs.Batch.{Plan, IsBatch, after_each, plan_text, is_refused}
-use Rattle.batch_run.specs.Renamed.{KeepsLines}
+use Rattle.batch_run.specs.Keeping.{KeepsLines}
 
 -- A batch that was run over these files, with the answers to its lines.
 pub record IsRun (ws : WorkspaceValue) (files : FileMap) (lines : List LineValue) (b : Batched) (plans : List Plan) : Type 0 where

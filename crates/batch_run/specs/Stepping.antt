@@ -11,7 +11,7 @@ use Rattle.offences.specs.declared.refusals.Refusal.{Refusal}
 use Rattle.rename_rules.specs.Renaming.{IsRenaming}
 use Rattle.batch_run.specs.declared.stepping.Batching.{Batching}
 use Rattle.batch_run.specs.Batch.{Plan, IsLine, IsBatch, after, after_each, plan_text, is_refused}
-use Rattle.batch_run.specs.Renamed.{KeepsLine, KeepsLines}
+use Rattle.batch_run.specs.Keeping.{KeepsLine, KeepsLines}
 
 -- the workspace has this analysis over the files with these edits
 abbrev pub IsOver : WorkspaceValue → FileMap → List Edit → AnalysisValue → Type 0

@@ -11,7 +11,7 @@
 //! each file that changes, as the last line leaves it; nothing is put here. What stands against a rename belongs to
 //! `rename_rules`. What wants memory may answer `Memory`.
 //!
-//! Read `specs/Reading.antt`, then `read.rt`; `specs/Batch.antt`, `specs/Renamed.antt`, `specs/Running.antt`, then
+//! Read `specs/Reading.antt`, then `read.rt`; `specs/Batch.antt`, `specs/Keeping.antt`, `specs/Running.antt`, then
 //! `running.rt`.
 #![tactic(auto)]
 

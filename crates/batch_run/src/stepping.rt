@@ -1,6 +1,7 @@
 // One line of a batch.
 ghost use Rattle.std.specs.Prelude.{Err, IfOk, Ok, Some};
 ghost use Rattle.rename_rules.specs.Renaming.{IsRenaming};
+ghost use Rattle.renamed.specs.Rename.{RenamesOver};
 ghost use Rattle.batch_run.specs.Batch.{Plan};
 ghost use Rattle.batch_run.specs.Stepping.{IsAnswered, IsReady, Steps};
 
@@ -60,6 +61,8 @@ fn accept_line(
 ) -> Result<Batching, Memory>
     requires ready { IsReady ws.now state }
     requires answered { IsAnswered state line.now (Ok new.now) }
+    requires renames { RenamesOver state.analysis.value.workspace state.analysis.value line.now.path line.now.line line.now.column
+        line.now.name line.now.strings new.now }
     ensures { IfOk result (λ now. (plan : Plan) × Steps ws.now line.now plan state now) }
 {
     let Batching {
@@ -72,10 +75,6 @@ fn accept_line(
     let mut text = text;
     push_edits(alloc, &mut text, new)?;
     edits.put_each(alloc, new)?;
-    // Each path of the analysis has one number, and its classes are those of its links.
-    let _files = analysis.files();
-    let _classes = analysis.classes();
-    let _units = ws.units();
     match analysis.part_at(line.path(), line.line(), line.column()) {
         Some(part) => {
             let analysis = advance(alloc, analysis, part, line.name())?;

@@ -10,7 +10,7 @@ use Rattle.analysis.specs.Below.source_files.Files.{source_of}
 use Rattle.analysis.specs.Analysis.{AnalysisValue, analysis_of}
 use Rattle.analysis.specs.Texts.{UnitFault}
 use Rattle.cscout_run.specs.Answer.{Answer, IsBatchAnswer, IsLinesAnswer, lines_answer}
-use Rattle.cscout_run.proofs.AlikeLemmas.{renamings_once}
+use Rattle.rename_plan.proofs.OnceLemmas.{renamings_once}
 
 pub same-answer : (x a b : Answer) → x ≡ a → x ≡ b → a ≡ b
 same-answer x a b p q = sym p ∙ q

@@ -1,24 +1,23 @@
 -- A run that goes on keeps its promise: from what was planned to the files once its edits are put.
-use Rattle.std.proofs.Common.{◌≡◌, ℕ, List, [], Option, None, Some, Result, Ok, Err, get_or, ap, sym, subst}
+use Rattle.std.proofs.Common.{◌≡◌, ℕ, List, [], Option, None, Some, Result, Ok, Err, ap, sym, subst}
 use Rattle.std.specs.Prelude.{IfSome}
 use Rattle.std.specs.Option.{option_map}
-use Rattle.std.proofs.lemmas.Option.{slice_get-get_or}
 use Rattle.cs_base.specs.Edit.{Edit, with_edits}
 use Rattle.cs_base.specs.Outside.{FileMap}
-use Rattle.batch_run.specs.Line.{LineValue, line_value}
-use Rattle.batch_run.proofs.RenamedLemmas.{IsPlanned, edits_are_put, rename_is_kept, workspace_is}
+use Rattle.batch_run.specs.Line.{LineValue}
+use Rattle.batch_run.proofs.KeepingLemmas.{workspace_is}
+use Rattle.edited_files.proofs.MadeLemmas.{edits_are_made}
+use Rattle.renamed.specs.Rename.{RenamesOver}
+use Rattle.reordered.specs.Reorder.{ReordersOver}
 use Rattle.command_words.proofs.MessageLemmas.{message_there}
 use Rattle.command_words.specs.Request.{RequestValue, RenameValue, TemplateValue, BatchValue, asked, help_asked, version_asked, renaming_asked, template_asked, tokens_asked, skipped_asked, class_asked, unused_asked, includes_asked, calls_asked, find_asked, batch_asked, generated_asked}
-use Rattle.edited_files.specs.Edited.{ArePut}
-use Rattle.template_meaning.specs.Kept.{AreMade}
-use Rattle.template_meaning.specs.Reordered.{AnalysisIsReordered}
 use Rattle.ws_file.specs.Workspace.{WorkspaceValue}
 use Rattle.ws_file.specs.Reading.{WsFault}
 use Rattle.analysis.specs.Below.source_files.Files.{source_of}
 use Rattle.analysis.specs.Analysis.{AnalysisValue, analysis_of}
 use Rattle.analysis.specs.Texts.{UnitFault}
 use Rattle.cscout_run.specs.Answer.{Answer, IsBatchAnswer, IsLinesAnswer, IsOverWorkspace, IsRequestAnswer, batch_at, stopped, workspace_at}
-use Rattle.cscout_run.specs.Promise.{Edited, IsRenamed, IsReordered, HasRun, KeepsPromise, KeepsRefused}
+use Rattle.cscout_run.specs.Promise.{HasRenamed, HasReordered, HasRun, KeepsPromise, KeepsRefused}
 use Rattle.cscout_run.specs.Steps.{LinesRun, Ordered, Planned, Prepares, IsPlannedFor}
 use Rattle.cscout_run.specs.Stopping.{Stops, line_of, status_of}
 use Rattle.cscout_run.specs.declared.preparing.Ready.{Ready}
@@ -30,51 +29,20 @@ use Rattle.cscout_run.proofs.RunLemmas.{if_told, if_told-map}
 -- ---- a run that goes on
 
 -- a rename
-kept : (q : RenameValue) (before : FileMap) (edits : List Edit) → Planned q before edits → (r : Edited) × IsRenamed q before (with_edits edits before) r
-kept q before edits p =
-    let line : LineValue = line_value q.path q.line q.column q.name q.strings in
-    let planned : IsPlanned p.ws p.analysis = record { workspace = p.is; classes = p.classes; own = p.own; once = p.once } in
-    let kept' = rename_is_kept p.ws line p.analysis edits planned p.renaming p.sound before p.analysed in
-    let is = kept'.1 in
-    let r : Edited = record { ws = p.ws; analysis = kept'.0.analysis; part = kept'.0.part; members = kept'.0.members } in (
-      r,
-      record {
-        workspace = p.workspace;
-        analysed = is.analysed;
-        units = is.units;
-        named = is.named;
-        class = is.class;
-        clear = is.clear;
-        edited = is.edited;
-        others = is.others;
-        texts = is.texts;
-        meaning = is.meaning;
-        shared = is.shared;
-      },
-    )
+has_renamed : (q : RenameValue) (before : FileMap) (edits : List Edit) → Planned q before edits → HasRenamed q before (with_edits edits before)
+has_renamed q before edits p =
+    let over : RenamesOver p.ws p.analysis q.path q.line q.column q.name q.strings edits =
+    subst (λ (w : WorkspaceValue). RenamesOver w p.analysis q.path q.line q.column q.name q.strings edits) (workspace_is (source_of before) p.ws p.analysis p.analysed) p.over in
+    let kept = over (source_of before) (source_of (with_edits edits before)) p.analysed (edits_are_made edits before p.sound) in
+    record { ws = p.ws; workspace = p.workspace; class = kept.0; renamed = kept.1 }
 
 -- a new order
-reordered : (q : TemplateValue) (before : FileMap) (edits : List Edit) → Ordered q before edits → (r : Edited) × IsReordered q before (with_edits edits before) r
-reordered q before edits p =
-    let o = p.over in
-    let put : ArePut edits before (with_edits edits before) = edits_are_put edits before p.sound in
-    let made : AreMade edits (source_of before) (source_of (with_edits edits before)) = record {
-      each = λ e among. put.each among.0 e among.1;
-      others = λ path apart. put.others path (λ k d below. apart (get_or edits k d) (k, slice_get-get_or edits k d below));
-    } in
-    let same : p.analysis.workspace ≡ p.ws = workspace_is (source_of before) p.ws p.analysis p.analysed in
-    let kept' = o.kept (source_of before) (source_of (with_edits edits before)) (subst (λ (w : WorkspaceValue). analysis_of (source_of before) w ≡ Ok p.analysis) (sym same) p.analysed) made in (
-      record { ws = p.ws; analysis = p.analysis; part = o.part; members = o.members },
-      record {
-        workspace = p.workspace;
-        analysed = p.analysed;
-        named = o.named;
-        class = o.class;
-        accepted = record { analysed = p.analysed; function = o.function; ordered = o.ordered; clear = o.clear };
-        files = kept'.files;
-        meaning = subst (λ (w : WorkspaceValue). AnalysisIsReordered (source_of (with_edits edits before)) w p.analysis o.members q.order) same kept'.meaning;
-      },
-    )
+has_reordered : (q : TemplateValue) (before : FileMap) (edits : List Edit) → Ordered q before edits → HasReordered q before (with_edits edits before)
+has_reordered q before edits p =
+    let over : ReordersOver p.ws p.analysis q.path q.line q.column q.order edits =
+    subst (λ (w : WorkspaceValue). ReordersOver w p.analysis q.path q.line q.column q.order edits) (workspace_is (source_of before) p.ws p.analysis p.analysed) p.over in
+    let kept = over (source_of before) (source_of (with_edits edits before)) p.analysed (edits_are_made edits before p.sound) in
+    record { ws = p.ws; workspace = p.workspace; class = kept.0; reordered = kept.1 }
 
 -- a batch
 has_run : (q : BatchValue) (before : FileMap) (edits : List Edit) → LinesRun q before edits → HasRun q before (with_edits edits before)
@@ -102,8 +70,8 @@ promise_at (calls_asked ws) before ready p = tt
 promise_at (find_asked q) before ready p = tt
 promise_at (batch_asked q) before ready p = has_run q before ready.edits p
 promise_at (generated_asked n) before ready p = tt
-promise_at (renaming_asked q) before ready p = kept q before ready.edits p
-promise_at (template_asked q) before ready p = reordered q before ready.edits p
+promise_at (renaming_asked q) before ready p = has_renamed q before ready.edits p
+promise_at (template_asked q) before ready p = has_reordered q before ready.edits p
 
 -- the promise where a run is done is one where it is refused
 refused_at : (request : RequestValue) (before now : FileMap) → KeepsPromise (Some request) before now → KeepsRefused (Some request) before now

@@ -26,7 +26,7 @@ use Rattle.cscout_run.specs.declared.stops.Stop.{Stop}
 use Rattle.cscout_run.specs.declared.stops.Stop.TheVariants as stop
 use Rattle.command_words.specs.Request.{RequestValue, RenameValue, TemplateValue, ClassValue, FindValue, help_asked, version_asked, renaming_asked, template_asked, tokens_asked, skipped_asked, class_asked, unused_asked, includes_asked, calls_asked, find_asked, batch_asked, asked, generated_asked}
 use Rattle.cscout_run.specs.Answer.{Answer, IsAnswer, IsAnswerTo, IsRequestAnswer, IsClassAnswer, IsListAnswer, IsCallsAnswer, IsFindAnswer, IsFindReport, IsRenameAnswer, IsTemplateAnswer, IsOverWorkspace, IsBatchAnswer, answer_of, batch_at, class_answer, edit_answer, ready_status, shown, stopped, workspace_at, IsSizeAnswer, size_answer}
-use Rattle.cscout_run.proofs.TemplateLemmas.{templates_once}
+use Rattle.template_plan.proofs.OnceLemmas.{templates_once}
 use Rattle.command_words.specs.Message.{usage_line}
 use Rattle.cscout_run.specs.Outcome.{World, told_in, GoesOn, StatusIs, HasCauses, IsComplete, IsDone, NoneRose, ShowsAnswer, Tells, FailedPut, Unmoved}
 use Rattle.cscout_run.specs.Steps.{Prepares}
@@ -38,7 +38,9 @@ use Rattle.calls_of.specs.Graphs.{calls_text}
 use Rattle.cscout_run.proofs.CallsLemmas.{one_graph}
 use Rattle.cscout_run.specs.Stopping.{Stops, stop_reads, status_of, line_of}
 use Rattle.offences.proofs.MemberListLemmas.{one_list}
-use Rattle.cscout_run.proofs.AlikeLemmas.{one_found, one_named, one_unneeded, one_unused, renamings_once}
+use Rattle.cscout_run.proofs.AlikeLemmas.{one_found, one_unneeded, one_unused}
+use Rattle.rename_plan.proofs.OnceLemmas.{renamings_once}
+use Rattle.offences.proofs.NamedLemmas.{one_named}
 use Rattle.cscout_run.proofs.LineLemmas.{batch-alike, same-answer}
 use Rattle.cscout_run.proofs.WorkspaceLemmas.{read_is_workspace}
 

@@ -2,31 +2,28 @@
 use Rattle.std.specs.Prelude.{ℕ, ◌≡◌, List, [], Option, None, Some, Result, Ok, Err}
 use Rattle.cs_base.specs.Outside.{FileMap, ReadEnd, NoneFailed}
 use Rattle.cs_base.specs.Edit.{Edit, IsKept}
-use Rattle.ws_file.specs.Workspace.{WorkspaceValue, IsWorkspace}
+use Rattle.ws_file.specs.Workspace.{WorkspaceValue}
 use Rattle.ws_file.specs.Reading.{WsFault}
-use Rattle.analysis.specs.Below.eclass_map.ClassTable as classes
 use Rattle.analysis.specs.Below.source_files.Files.{source_of}
-use Rattle.analysis.specs.Below.source_files.Tables.{HasEachOnce}
 use Rattle.analysis.specs.Analysis.{AnalysisValue, analysis_of}
-use Rattle.analysis.specs.Classes.{AreItsClasses}
 use Rattle.analysis.specs.declared.analyse_fault.AnalyseFault.{AnalyseFault}
 use Rattle.analysis.specs.declared.analyse_fault.AnalyseFault.TheVariants as fault
 use Rattle.cscout_run.specs.declared.status.Status.TheVariants as status
 use Rattle.cscout_run.specs.declared.stops.Stop.{Stop}
 use Rattle.cscout_run.specs.declared.stops.Stop.TheVariants.{UnreadWorkspace, UnitFault, UnreadFile, BadName, NoName, NotAFunction, BadOrder, BadQuery, DeepQuery, Offence, Memory}
 use Rattle.cscout_run.specs.declared.preparing.Ready.{Ready}
-use Rattle.rename_rules.specs.Renaming.{IsRenaming}
 use Rattle.batch_run.specs.Line.{LineValue}
 use Rattle.batch_run.specs.Batch.{Plan, IsBatch, after_each}
 use Rattle.offences.specs.declared.refusals.PlanFault.{PlanFault}
 use Rattle.offences.specs.declared.refusals.PlanFault.TheVariants as plan
 use Rattle.offences.specs.declared.refusals.Refusal.{Refusal}
 use Rattle.offences.specs.declared.refusals.Refusal.TheVariants as refusal
-use Rattle.batch_run.specs.Renamed.{KeepsLines}
+use Rattle.batch_run.specs.Keeping.{KeepsLines}
 use Rattle.find_names.specs.declared.refusal.FindRefusal.{FindRefusal}
 use Rattle.find_names.specs.declared.refusal.FindRefusal.TheVariants as found
 use Rattle.command_words.specs.Request.{RequestValue, RenameValue, TemplateValue, BatchValue, renaming_asked, template_asked, batch_asked}
-use Rattle.template_meaning.specs.Kept.{ReordersOver}
+use Rattle.renamed.specs.Rename.{RenamesOver}
+use Rattle.reordered.specs.Reorder.{ReordersOver}
 use Rattle.cscout_run.specs.Answer.{Answer, answer_of, batch_at, ready_status, stopped, workspace_at, ws_fault_line}
 use Rattle.command_words.specs.Message.{absent_line, batch_line}
 use Rattle.cscout_run.specs.Stopping.{Stops, stop_reads}
@@ -88,18 +85,14 @@ abbrev pub reads_of : {X : Type 0} → List ℕ → Result X Stop → ReadEnd
 reads_of ws (Ok x) = NoneFailed
 reads_of ws (Err stop) = stop_reads ws stop
 
--- An accepted renaming, as it stands before the first put: it is planned over the analysis of the workspace, with its
--- classes; each path has one number; and paths of edits are in order.
+-- An accepted renaming, as it stands before the first put: it is planned over the analysis of the workspace, and paths of edits
+-- are in order.
 pub record Planned (q : RenameValue) (files : FileMap) (edits : List Edit) : Type 0 where
   pub ws : WorkspaceValue
   pub analysis : AnalysisValue
   pub workspace : workspace_at q.ws files ≡ Some (Ok ws)
-  pub is : IsWorkspace ws
   pub analysed : analysis_of (source_of files) ws ≡ Ok analysis
-  pub classes : classes.Table
-  pub own : AreItsClasses analysis classes
-  pub once : HasEachOnce analysis.table
-  pub renaming : IsRenaming analysis q.path q.line q.column q.name q.strings (Ok edits)
+  pub over : RenamesOver analysis.workspace analysis q.path q.line q.column q.name q.strings edits
   pub sound : IsKept edits
 
 -- what stands ready for a rename is planned

@@ -2,7 +2,7 @@
 ghost use Rattle.std.specs.Prelude.{◌≡◌, false, IfSome, IfOk, IfErr, IsUtf8, Ok, []};
 ghost use Rattle.cs_base.specs.Outside.{ReadsOnly};
 ghost use Rattle.cs_base.specs.Edit.{IsKept};
-ghost use Rattle.rename_rules.specs.Renaming.{IsRenaming};
+ghost use Rattle.renamed.specs.Rename.{RenamesOver};
 ghost use Rattle.cscout_run.specs.Answer.{IsRenameAnswer, IsRequestAnswer};
 ghost use Rattle.command_words.specs.Asking.{request_value, rename_value, workspace_file};
 ghost use Rattle.command_words.specs.Request.{renaming_asked};
@@ -86,8 +86,6 @@ fn prepare_rename<F: Files>(
     let ws = read_workspace(alloc, rename.ws, files)?;
     match analyse(alloc, &ws, files) {
         Ok(analysis) => {
-            // Each path of the analysis has one number.
-            let _files = analysis.files();
             let answer = planned(alloc, &analysis, rename);
             mem::forget(analysis);
             answer
@@ -99,9 +97,8 @@ fn prepare_rename<F: Files>(
 // The edits of the rename and the text that tells them, once the workspace is analysed.
 fn planned(alloc: Global, a: &Analysis, rename: &Rename<'_>) -> Result<Ready, Stop>
     ensures answer { Prepares rename.now.ws.now (IsRenameAnswer (rename_value rename.now) (Ok a.now.value)) result }
-    ensures renaming { IfOk result (λ ready.
-        IsRenaming a.now.value (rename_value rename.now).path rename.now.line rename.now.column rename.now.name.now rename.now.strings
-        (Ok ready.edits)) }
+    ensures over { IfOk result (λ ready. RenamesOver a.now.value.workspace a.now.value
+        (rename_value rename.now).path rename.now.line rename.now.column rename.now.name.now rename.now.strings ready.edits) }
     ensures sound { IfOk result (λ ready. IsKept ready.edits) }
     ensures stops { IfErr result IsPlanStop }
 {

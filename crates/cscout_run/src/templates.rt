@@ -6,7 +6,7 @@ ghost use Rattle.command_words.specs.Asking.{template_value};
 ghost use Rattle.command_words.specs.Request.{template_asked};
 ghost use Rattle.cscout_run.specs.Answer.{IsRequestAnswer, IsTemplateAnswer};
 ghost use Rattle.cscout_run.specs.Steps.{IsOrdered, IsPlanStop, Prepares, reads_of};
-ghost use Rattle.template_meaning.specs.Kept.{ReordersOver};
+ghost use Rattle.reordered.specs.Reorder.{ReordersOver};
 
 use crate::preparing::{Ready, path_text, stop_for};
 use crate::reporting::stop_of;

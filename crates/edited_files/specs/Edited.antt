@@ -1,5 +1,5 @@
 -- Edits by path, one for each, and the files that they leave (this project's own).
-use Rattle.std.specs.Prelude.{ℕ, ◌≡◌, false, List, [], ◌∷◌, Some, All, slice_get, if◌then◌else◌}
+use Rattle.std.specs.Prelude.{ℕ, ◌≡◌, false, Option, List, [], ◌∷◌, Some, All, slice_get, if◌then◌else◌}
 use Rattle.std.specs.Str.{bytes_eq}
 use Rattle.cs_base.specs.Edit.{Edit, comes_before}
 use Rattle.cs_base.specs.Outside.{FileMap, bytes_at}
@@ -20,3 +20,8 @@ with_each (e ∷ es) edits = with_each es (with_edit e edits)
 pub record ArePut (edits : List Edit) (before now : FileMap) : Type 0 where
   pub each : (k : ℕ) (e : Edit) → slice_get edits k ≡ Some e → bytes_at e.path now ≡ Some e.bytes
   pub others : (path : List ℕ) → All (λ e. bytes_eq e.path path ≡ false) edits → bytes_at path now ≡ bytes_at path before
+
+-- The same between two moments at which these bytes stood at each path.
+pub record AreMade (edits : List Edit) (before now : List ℕ → Option (List ℕ)) : Type 0 where
+  pub each : (k : ℕ) (e : Edit) → slice_get edits k ≡ Some e → now e.path ≡ Some e.bytes
+  pub others : (path : List ℕ) → ((k : ℕ) (e : Edit) → slice_get edits k ≡ Some e → bytes_eq e.path path ≡ false) → now path ≡ before path

@@ -12,7 +12,7 @@ use Rattle.analysis.specs.Parts.{AreMembers}
 use Rattle.analysis.proofs.PartLemmas.{part_once}
 use Rattle.rename_rules.specs.Renaming.{IsRenaming}
 use Rattle.rename_meaning.proofs.NoneLemmas.{cleared}
-use Rattle.rename_meaning.proofs.PlanLemmas.{is_plan}
+use Rattle.rename_rules.proofs.PlannedLemmas.{is_plan}
 use Rattle.kept_analysis.specs.Following.{IsFollowed}
 
 -- a place names one part

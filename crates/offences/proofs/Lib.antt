@@ -3,4 +3,7 @@ pub mod AnswerLemmas
 pub mod FirstLemmas
 pub mod ClassLemmas
 pub mod OriginLemmas
+pub mod PlaceLemmas
+pub mod TiedLemmas
+pub mod NamedLemmas
 pub mod MemberListLemmas

@@ -6,6 +6,7 @@ use Rattle.eclass_map.specs.ClassTable.{class_in}
 use Rattle.eclass_map.specs.Positions.{holds}
 use Rattle.part_respell.specs.Respelled.{member_over}
 use Rattle.analysis.specs.Analysed.{Analysed}
+use Rattle.analysis.specs.Analysis.{AnalysisValue}
 use Rattle.analysis.specs.Parts.{AreMembers}
 
 -- The analysis, and the members of the class.
@@ -15,6 +16,12 @@ pub record ClassValue : Type 0 where
 
 abbrev pub class_over : Analysed → List Part → ClassValue
 class_over analysis members = record { analysis = analysis; members = members }
+
+-- The class that a place of a workspace names: the analysis, the part at the place, and the members of its class.
+pub record NamedClass : Type 0 where
+  pub analysis : AnalysisValue
+  pub part : Part
+  pub members : List Part
 
 -- These are the members of the class with this number, in the order of their places.
 pub record IsClass (a : Analysed) (members : List Part) (number : ℕ) : Type 0 where

@@ -22,7 +22,7 @@ use Rattle.rename_rules.specs.Runs.{edit_of, edits_of, file_of, new_bytes, runs}
 use Rattle.analysis.proofs.NamingLemmas.{split_at}
 use Rattle.edited_unit_laws.proofs.ListLemmas.{In, in_flat}
 use Rattle.rename_meaning.proofs.NoneLemmas.{none_stand, writable}
-use Rattle.rename_meaning.specs.EditedSource.{HoldsMembers}
+use Rattle.renamed.specs.Rename.{HoldsMembers}
 use Rattle.rename_meaning.proofs.SourceLemmas.{head_in}
 
 abbrev pub edit_for : (name : List ℕ) (run : List Part) (f : KeptValue) → Edit

@@ -1,22 +1,20 @@
 -- The members of a class that lie in one file stand together.
-use Rattle.std.proofs.Common.{◌≡◌, ℕ, zero, suc, ◌+◌, ◌<◌, true, not, ◌==◌, List, [], ◌∷◌, length, drop, Option, Some, None, inl, inr, refl, sym, ap, ◌∙◌, arith}
+use Rattle.std.proofs.Common.{◌≡◌, ℕ, zero, suc, ◌+◌, ◌<◌, true, ◌==◌, List, [], ◌∷◌, length, drop, Option, Some, None, inl, inr, refl, sym, ap, ◌∙◌, arith}
 use Rattle.std.specs.Prelude.{slice_get}
-use Rattle.std.specs.List.{list_any, prefix_len}
+use Rattle.std.specs.List.{prefix_len}
 use Rattle.std.specs.List.Sorted.{IsStrictlySortedBy}
 use Rattle.std.specs.Option.{option_and_then}
 use Rattle.std.specs.Ordering.{nat_cmp, ordering_then, is_eq}
-use Rattle.std.specs.Str.{bytes_eq}
 use Rattle.std.specs.Cmp.Lexicographic.{slice_cmp}
 use Rattle.std.specs.declared.cmp.Ordering.{Ordering}
 use Rattle.std.specs.declared.cmp.Ordering.TheVariants.{Less, Equal, Greater}
-use Rattle.std.proofs.lemmas.Bool.{cases_Bool, both_ways, and_parts, eq-eqb, eqb-true}
+use Rattle.std.proofs.lemmas.Bool.{cases_Bool, both_ways, eq-eqb, eqb-true}
 use Rattle.std.proofs.lemmas.Cmp.{nat_list_cmp_total}
 use Rattle.std.proofs.lemmas.Map.Keys.{Less-from_sorted, sorted_tail}
 use Rattle.std.proofs.lemmas.Map.Text.{is_eq-slice_cmp}
-use Rattle.std.proofs.lemmas.Option.{none-some, same_Some, slice_get_within}
+use Rattle.std.proofs.lemmas.Option.{none-some, slice_get_within}
 use Rattle.cs_base.specs.declared.positions.Part.{Part}
-use Rattle.cs_base.proofs.FileMapLemmas.{bytes_eq-same, bytes_eq-equal}
-use Rattle.line_shape.specs.MacroLine.{are_distinct}
+use Rattle.cs_base.proofs.FileMapLemmas.{bytes_eq-same}
 use Rattle.source_files.specs.Files.{Entry, Table}
 use Rattle.source_files.specs.KeptFiles.{KeptValue, kept_in, kept_at}
 use Rattle.source_files.specs.Tables.{paths_in, HasEachOnce}
@@ -27,24 +25,10 @@ use Rattle.analysis.specs.Places.{path_at}
 use Rattle.rename_rules.specs.Runs.{is_in}
 use Rattle.rename_meaning.specs.Allowed.{IsAllowed}
 use Rattle.rename_meaning.proofs.CharacterLemmas.{character_file}
-use Rattle.edited_unit_laws.proofs.ListLemmas.{any_at}
+use Rattle.offences.proofs.PlaceLemmas.{one_place, tied}
 use Rattle.rename_meaning.proofs.NoneLemmas.{none_stand, no_line}
 
 -- ---- each path once
-
-twice : (y : List ℕ) (ys : List (List ℕ)) (k : ℕ) (x : List ℕ) → are_distinct (y ∷ ys) ≡ true → y ≡ x → slice_get ys k ≡ Some x → ⊥
-twice y ys k x distinct same at =
-    let among : list_any (bytes_eq y) ys ≡ true = any_at (bytes_eq y) ys k x at (ap (bytes_eq y) (sym same) ∙ bytes_eq-same y) in
-    let wrong : not true ≡ true = ap not (sym among) ∙ (and_parts (not (list_any (bytes_eq y) ys)) (are_distinct ys) distinct).0 in
-    cc
-
-pub one_place : (names : List (List ℕ)) (i j : ℕ) (x : List ℕ) → are_distinct names ≡ true → slice_get names i ≡ Some x → slice_get names j ≡ Some x → i ≡ j
-one_place [] i j x distinct e f = absurd (none-some x e)
-one_place (y ∷ ys) zero zero x distinct e f = refl
-one_place (y ∷ ys) zero (suc j) x distinct e f = absurd (twice y ys j x distinct (same_Some y x e) f)
-one_place (y ∷ ys) (suc i) zero x distinct e f = absurd (twice y ys i x distinct (same_Some y x f) e)
-one_place (y ∷ ys) (suc i) (suc j) x distinct e f =
-    ap suc (one_place ys i j x (and_parts (not (list_any (bytes_eq y) ys)) (are_distinct ys) distinct).1 e f)
 
 path_there : (table : Table) (n : ℕ) → n < length table → slice_get (paths_in table) n ≡ Some (path_at table n)
 path_there [] n within = absurd (omega (arith, within))
@@ -70,9 +54,6 @@ first_decides : (o other : Ordering) → ordering_then o other ≡ Less → (o �
 first_decides Less other h apart = refl
 first_decides Equal other h apart = absurd (apart refl)
 first_decides Greater other h apart = absurd (cc)
-
-pub tied : (xs ys : List ℕ) → slice_cmp nat_cmp xs ys ≡ Equal → xs ≡ ys
-tied xs ys e = bytes_eq-equal xs ys (sym (is_eq-slice_cmp xs ys) ∙ ap is_eq e)
 
 -- a member's file is kept
 abbrev AreKept : Table → List Part → Type 0

@@ -5,8 +5,8 @@ use Rattle.std.specs.Option.{option_map, option_and_then}
 use Rattle.std.proofs.lemmas.Bool.{cases_Bool, both_ways, eq-eqb, eqb-true}
 use Rattle.std.proofs.lemmas.Option.{none-some, same_Some}
 use Rattle.cs_base.specs.declared.positions.Part.{Part}
-use Rattle.source_files.specs.Files.{Source, Entry, Table}
-use Rattle.source_files.specs.KeptFiles.{KeptValue, kept, kept_bytes, kept_in, kept_at}
+use Rattle.source_files.specs.Files.{Source, Entry}
+use Rattle.source_files.specs.KeptFiles.{KeptValue, kept_in, kept_at}
 use Rattle.source_files.specs.Tables.{paths_in, HasEachOnce}
 use Rattle.part_respell.specs.Respelled.{respelled}
 use Rattle.offences.specs.First.{IsAmong}
@@ -17,43 +17,13 @@ use Rattle.rename_meaning.specs.Allowed.{IsAllowed}
 use Rattle.rename_meaning.proofs.CharacterLemmas.{character_file}
 use Rattle.rename_meaning.proofs.DirectiveLemmas.{in_drop}
 use Rattle.edited_unit_laws.proofs.ListLemmas.{In, any_at}
+use Rattle.offences.proofs.PlaceLemmas.{one_place, path_of_entry, kept_of, kept_there}
 use Rattle.rename_meaning.proofs.NoneLemmas.{none_stand, no_line}
 use Rattle.rename_meaning.proofs.KeptFileLemmas.{respelled_same}
-use Rattle.rename_meaning.proofs.MemberOrderLemmas.{StandTogether, one_place, members_together}
+use Rattle.rename_meaning.proofs.MemberOrderLemmas.{StandTogether, members_together}
 use Rattle.rename_meaning.proofs.RunLemmas.{run_of, rest_of, runs_are, rest_less, rest_together, rest_edited, run_respelled, rest_respelled}
-use Rattle.rename_meaning.specs.EditedSource.{HoldsMembers, AreRespelled, RespelledFilesHoldEdited}
-
--- ---- entries of a table
-
-path_of_entry : (table : Table) (n : ℕ) (e : Entry) → slice_get table n ≡ Some e → slice_get (paths_in table) n ≡ Some e.path
-path_of_entry [] n e at = absurd (none-some e at)
-path_of_entry (x ∷ table) zero e at = ap (λ (d : Entry). Some d.path) (same_Some x e at)
-path_of_entry (x ∷ table) (suc n) e at = path_of_entry table n e at
-
--- a kept file has the path and the number of its entry
-record IsOfEntry (n : ℕ) (e : Entry) (f : KeptValue) : Type 0 where
-  path : f.path ≡ e.path
-  number : f.number ≡ n
-
-kept_by : (n : ℕ) (path : List ℕ) (o : Option (List ℕ)) (f : KeptValue) → option_map (kept n path) o ≡ Some f → (f.path ≡ path) × (f.number ≡ n)
-kept_by n path None f h = absurd (none-some f h)
-kept_by n path (Some bytes) f h =
-    let same : kept n path bytes ≡ f = same_Some (kept n path bytes) f h in
-    (sym (ap (λ (k : KeptValue). k.path) same), sym (ap (λ (k : KeptValue). k.number) same))
-
-kept_of : (n : ℕ) (e : Entry) (f : KeptValue) → kept_in n e ≡ Some f → IsOfEntry n e f
-kept_of n e f h = let r = kept_by n e.path (kept_bytes e.found) f h in record { path = r.0; number = r.1 }
-
--- a kept file of a table, and its entry
-entry_by : (n : ℕ) (o : Option Entry) (f : KeptValue) → option_and_then (kept_in n) o ≡ Some f → (e : Entry) × (o ≡ Some e) × (kept_in n e ≡ Some f)
-entry_by n None f h = absurd (none-some f h)
-entry_by n (Some e) f h = (e, refl, h)
-
-pub kept_there : (table : Table) (n : ℕ) (f : KeptValue) → kept_at table n ≡ Some f → slice_get (paths_in table) n ≡ Some f.path
-kept_there table n f h =
-    let r = entry_by n (slice_get table n) f h in
-    let of = kept_of n r.0 f r.2 in
-    path_of_entry table n r.0 r.1 ∙ ap (λ (p : List ℕ). Some p) (sym of.path)
+use Rattle.rename_meaning.specs.EditedSource.{RespelledFilesHoldEdited}
+use Rattle.renamed.specs.Rename.{HoldsMembers, AreRespelled}
 
 -- ---- runs of members
 

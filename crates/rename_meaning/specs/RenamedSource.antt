@@ -13,7 +13,7 @@ use Rattle.analysis.specs.Analysis.{AnalysisValue, analysis_of}
 use Rattle.analysis.specs.Classes.{AreItsClasses}
 use Rattle.analysis.specs.Naming.{Names}
 use Rattle.analysis.specs.Parts.{AreMembers}
-use Rattle.rename_meaning.specs.EditedSource.{AreRespelled}
+use Rattle.renamed.specs.Rename.{AreRespelled}
 use Rattle.renamed.specs.Renamed.{TextsAreRenamed, AnalysisIsRenamed, ExternalNamesAreKept}
 
 -- A renaming against which nothing stands, if strings that `#` makes may follow it: of the class of the part that a place names, in a workspace that is accepted.

@@ -2,3 +2,4 @@ pub mod EditLemmas
 pub mod PlanLemmas
 pub mod PathLemmas
 mod MeaningLemmas
+pub mod OnceLemmas

@@ -1,11 +1,11 @@
 -- The paths of the files of members: in order, and text.
-use Rattle.std.proofs.Common.{◌≡◌, ℕ, zero, suc, ◌+◌, ◌<◌, ◌≤◌, Bool, true, false, not, ◌&&◌, List, [], ◌∷◌, ◌++◌, length, take, drop, Option, Some, None, slice_get, inl, inr, refl, sym, ap, subst, ◌∙◌, arith, add-one, append-nil}
+use Rattle.std.proofs.Common.{◌≡◌, ℕ, zero, suc, ◌+◌, ◌<◌, ◌≤◌, Bool, true, false, ◌&&◌, List, [], ◌∷◌, ◌++◌, length, take, drop, Option, Some, None, slice_get, inl, inr, refl, sym, ap, subst, ◌∙◌, arith, add-one, append-nil}
 use Rattle.std.specs.Prelude.{IsTrue, IsUtf8, slice_index_or}
-use Rattle.std.specs.List.{list_all, list_any, prefix_len}
+use Rattle.std.specs.List.{list_all, prefix_len}
 use Rattle.std.specs.List.Sorted.{IsStrictlySortedBy}
 use Rattle.std.specs.Option.{option_map, option_map_or, option_and_then}
 use Rattle.std.specs.Ordering.{nat_cmp, ordering_then, is_lt, is_eq}
-use Rattle.std.specs.Str.{bytes_eq, is_utf8}
+use Rattle.std.specs.Str.{is_utf8}
 use Rattle.std.specs.Cmp.Lexicographic.{slice_cmp}
 use Rattle.std.specs.declared.cmp.Ordering.{Ordering}
 use Rattle.std.specs.declared.cmp.Ordering.TheVariants.{Less, Equal, Greater}
@@ -18,8 +18,7 @@ use Rattle.std.proofs.lemmas.Str.{IsUtf8-from_is_utf8}
 use Rattle.cs_base.specs.declared.positions.Part.{Part}
 use Rattle.cs_base.specs.declared.positions.Pos.{Pos}
 use Rattle.cs_base.specs.Edit.{Edit, edit, comes_before, comes_last}
-use Rattle.cs_base.proofs.FileMapLemmas.{bytes_eq-same, bytes_eq-equal}
-use Rattle.analysis.specs.Below.line_shape.MacroLine.{are_distinct}
+use Rattle.cs_base.proofs.FileMapLemmas.{bytes_eq-equal}
 use Rattle.analysis.specs.Below.source_files.Files.{Entry, Table}
 use Rattle.analysis.specs.Below.source_files.KeptFiles.{KeptValue, kept, kept_bytes, kept_in, kept_at}
 use Rattle.analysis.specs.Below.source_files.Tables.{paths_in, HasEachOnce, AreText}
@@ -27,36 +26,15 @@ use Rattle.analysis.specs.Analysis.{AnalysisValue}
 use Rattle.analysis.specs.Parts.{IsCharacter, IsPart, AreMembers, StandInFiles, part_cmp}
 use Rattle.analysis.specs.Places.{path_at}
 use Rattle.rename_rules.specs.Runs.{edit_of, new_bytes, is_in, run_length}
+use Rattle.offences.proofs.PlaceLemmas.{one_place}
 use Rattle.rename_plan.specs.Order.{IsBefore, AreByPath, ComeBehind, IsNext}
 
 -- ---- each path once
-
-any_from : {X : Type 0} (test : X → Bool) (xs : List X) (k : ℕ) (x : X) → slice_get xs k ≡ Some x → test x ≡ true → list_any test xs ≡ true
-any_from test [] k x e h = absurd (cc)
-any_from test (y ∷ xs) zero x e h = let here : test y ≡ true = ap test (same_Some y x e) ∙ h in rw here refl
-any_from test (y ∷ xs) (suc k) x e h = elim (cases_Bool (test y)) [
-  | inl yes' ↦ rw yes' refl
-  | inr no' ↦ rw no' (any_from test xs k x e h)
-]
 
 all_at : {X : Type 0} (test : X → Bool) (xs : List X) (k : ℕ) (x : X) → list_all test xs ≡ true → slice_get xs k ≡ Some x → test x ≡ true
 all_at test [] k x h e = absurd (cc)
 all_at test (y ∷ xs) zero x h e = ap test (sym (same_Some y x e)) ∙ (and_parts (test y) (list_all test xs) h).0
 all_at test (y ∷ xs) (suc k) x h e = all_at test xs k x ((and_parts (test y) (list_all test xs) h).1) e
-
-twice : (y : List ℕ) (ys : List (List ℕ)) (k : ℕ) (x : List ℕ) → are_distinct (y ∷ ys) ≡ true → y ≡ x → slice_get ys k ≡ Some x → ⊥
-twice y ys k x distinct same at =
-    let among : list_any (bytes_eq y) ys ≡ true = any_from (bytes_eq y) ys k x at (ap (bytes_eq y) (sym same) ∙ bytes_eq-same y) in
-    let wrong : not true ≡ true = ap not (sym among) ∙ (and_parts (not (list_any (bytes_eq y) ys)) (are_distinct ys) distinct).0 in
-    absurd (cc)
-
-one_place : (names : List (List ℕ)) (i j : ℕ) (x : List ℕ) → are_distinct names ≡ true → slice_get names i ≡ Some x → slice_get names j ≡ Some x → i ≡ j
-one_place [] i j x distinct e f = absurd (cc)
-one_place (y ∷ ys) zero zero x distinct e f = refl
-one_place (y ∷ ys) zero (suc j) x distinct e f = absurd (twice y ys j x distinct (same_Some y x e) f)
-one_place (y ∷ ys) (suc i) zero x distinct e f = absurd (twice y ys i x distinct (same_Some y x f) e)
-one_place (y ∷ ys) (suc i) (suc j) x distinct e f =
-    ap suc (one_place ys i j x ((and_parts (not (list_any (bytes_eq y) ys)) (are_distinct ys) distinct).1) e f)
 
 -- ---- the path of a number
 

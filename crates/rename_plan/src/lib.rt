@@ -4,7 +4,7 @@
 //! may follow the renaming. It gives the edits of every file that holds a member of the class of the named part, or
 //! says that the name is no identifier, that the place names nothing, or which offence stands first. Over each source
 //! that has the analysis, once the edits are made, the workspace means what it meant (`RenamesOver` of
-//! `rename_meaning`). It reads and writes no files: `apply` of `edited_files` puts the edits.
+//! `renamed`). It reads and writes no files: `apply` of `edited_files` puts the edits.
 #![tactic(auto)]
 
 mod edits;

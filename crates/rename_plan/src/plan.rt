@@ -1,6 +1,5 @@
 // The edits of a renaming, or its first refusal.
 ghost use Rattle.std.specs.Prelude.{◌≡◌, None, IfOk};
-ghost use Rattle.rename_meaning.specs.Plans.{RenamesOver};
 ghost use Rattle.offences.specs.Class.{IsClass};
 ghost use Rattle.cs_base.specs.declared.causes.Cause.TheVariants.{Stringized as stringized_cause};
 ghost use Rattle.offences.specs.First.{standing, FirstThen, IsFirst};
@@ -10,6 +9,7 @@ ghost use Rattle.rename_rules.specs.Renaming.{IsClassRenamed, IsRenamed, IsRenam
 ghost use Rattle.offences.specs.Answers.{GivesOne};
 ghost use Rattle.offences.specs.Refusals.{refusal_of};
 ghost use Rattle.rename_rules.specs.Runs.{edits_of};
+ghost use Rattle.renamed.specs.Rename.{RenamesOver};
 ghost use Rattle.analysis.specs.Parts.{IsPart};
 
 use crate::edits::edit_files;
@@ -36,7 +36,7 @@ pub fn plan_rename(
 ) -> Result<Edits, PlanFault>
     ensures answer { GivesOne (λ edits. edits) refusal_of result (IsRenaming a.now.value path.now line column name.now strings) }
     // Over each source with this analysis, once the edits are made, the workspace means what it meant.
-    ensures meaning { IfOk result (λ edits. RenamesOver a.now.value.workspace a.now.value path.now line column name.now edits) }
+    ensures meaning { IfOk result (λ edits. RenamesOver a.now.value.workspace a.now.value path.now line column name.now strings edits) }
 {
     // The classes are those of the links, and the workspace is one that lines make.
     let _classes = a.classes();

@@ -4,3 +4,4 @@ pub mod SpelledLemmas
 pub mod OccurrenceLemmas
 pub mod RunLemmas
 pub mod SizeLemmas
+pub mod PlannedLemmas

@@ -23,7 +23,7 @@ use Rattle.template_meaning.specs.Accepted.{IsAccepted}
 use Rattle.template_meaning.specs.CanReorder.{UnitsCanReorder}
 use Rattle.template_meaning.specs.Children.{EachNode, IsOfAlternative}
 use Rattle.template_meaning.specs.Clear.{IsOwn, UnitIsClear}
-use Rattle.template_meaning.specs.Reordered.{begins_list}
+use Rattle.reordered.specs.Reordered.{begins_list}
 use Rattle.template_meaning.proofs.Children.{each_below}
 use Rattle.template_meaning.proofs.FitWalk.{rest_begins, trees_have_forms}
 use Rattle.template_meaning.proofs.UnitCut.{clear, read, declared, called, units_are_cut, no_list_is_first}

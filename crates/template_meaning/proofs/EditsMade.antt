@@ -16,7 +16,8 @@ use Rattle.source_files.specs.Tables.{HasEachOnce, paths_in}
 use Rattle.template_rules.specs.declared.file_lists.FoundList.{FoundList}
 use Rattle.template_rules.specs.FileLists.{all_found, lists_in, new_bytes, edit_for, edit_in, edits_from, edits_of}
 use Rattle.edited_files.specs.Edited.{with_edit, with_each}
-use Rattle.template_meaning.specs.Kept.{HoldsLists, EditsReorderFiles}
+use Rattle.template_meaning.specs.Kept.{EditsReorderFiles}
+use Rattle.reordered.specs.Reorder.{HoldsLists}
 use Rattle.template_meaning.proofs.TablesEdited.{number_path, kept_entry}
 
 -- ---- Lists of edits
@@ -229,8 +230,8 @@ edits_reorder_files a members order before now once held made =
           let there : In mine (with_each (edits_from (all_found members a) order 0 a.table) []) =
           each_there mine (edits_from (all_found members a) order 0 a.table) [] (own_paths (all_found members a) order 0 a.table once)
           (edits_there (all_found members a) order 0 f.number a.table x.one f x.there kept holds.some) in
-          (held f holds, made.each mine (among_of mine (edits_of members a order) there));
-      others = λ path apart. made.others path (λ e among. other path apart e among);
+          (let among : IsAmong (edits_of members a order) mine = among_of mine (edits_of members a order) there in (held f holds, made.each among.0 mine among.1));
+      others = λ path apart. made.others path (λ k e at. other path apart e (k, at));
     }
   where
     other : (path : List ℕ) → ((f : KeptValue) → HoldsLists a members f → f.path ≢ path) → (e : Edit) → IsAmong (edits_of members a order) e → bytes_eq e.path path ≡ false

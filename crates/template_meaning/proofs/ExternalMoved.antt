@@ -22,7 +22,7 @@ use Rattle.list_cuts.specs.Cuts.{Cut, arranged}
 use Rattle.list_cuts.proofs.CutLemmas.{arranged-map, length-arranged}
 use Rattle.reordered_tree_laws.proofs.MovedPlaces.{moved-beyond, texts_spelled}
 use Rattle.template_meaning.specs.Lists.{IsCut}
-use Rattle.template_meaning.specs.Reordered.{unit_cut, moved_in, Plain, plain, IsReorderedUnit, moved_at, ExternalNamesMove}
+use Rattle.reordered.specs.Reordered.{unit_cut, moved_in, Plain, plain, IsReorderedUnit, moved_at, ExternalNamesMove}
 
 -- ---- Names of a text
 

@@ -29,7 +29,7 @@ use Rattle.template_rules.specs.Functions.{origin_of, names_function}
 use Rattle.template_rules.specs.Lists.{count_of}
 use Rattle.template_meaning.specs.Accepted.{IsAccepted}
 use Rattle.template_meaning.specs.Clear.{IsOwn, ListIsClear}
-use Rattle.template_meaning.specs.Kept.{HoldsLists}
+use Rattle.reordered.specs.Reorder.{HoldsLists}
 use Rattle.template_meaning.proofs.Clear.{units_are_clear}
 
 -- ---- The order

@@ -32,6 +32,7 @@ mod ExternalMoved
 pub mod TablesEdited
 mod EditsMade
 mod PlansKept
+pub mod RefusalsOne
 mod NamesGoOn
 mod UnitsGoOn
 mod PathsStanding

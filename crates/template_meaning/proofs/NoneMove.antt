@@ -26,7 +26,7 @@ use Rattle.template_rules.specs.FileLists.{all_found, lists_in}
 use Rattle.template_rules.specs.FileLists as lists
 use Rattle.template_meaning.specs.Accepted.{IsAccepted}
 use Rattle.template_meaning.specs.Editing.{edit_by}
-use Rattle.template_meaning.specs.Reordered.{unit_cut}
+use Rattle.reordered.specs.Reordered.{unit_cut}
 use Rattle.template_meaning.specs.Standing.{ListsHavePlaces, AcceptedListsHavePlaces}
 use Rattle.template_meaning.proofs.FilesHeld.{order_is_one, files_held}
 use Rattle.template_meaning.proofs.FilesKept.{files_kept}

@@ -17,7 +17,7 @@ use Rattle.edited_unit_laws.specs.Paths.{ListsMovePaths, PathsStay}
 use Rattle.edited_unit_laws.specs.Workspaces.{PathStands}
 use Rattle.template_rules.specs.FileLists.{all_found, lists_in, items_of}
 use Rattle.template_meaning.specs.Editing.{edit_by}
-use Rattle.template_meaning.specs.Kept.{HoldsLists}
+use Rattle.reordered.specs.Reorder.{HoldsLists}
 use Rattle.template_meaning.specs.Spans.{FileSpans, is_none, cut_at, FilesMove, FilesStandInOrder}
 use Rattle.template_meaning.proofs.TablesEdited.{number_entry}
 

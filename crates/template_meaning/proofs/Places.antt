@@ -27,9 +27,9 @@ use Rattle.edited_unit_laws.specs.TokenRuns.{WorkspaceTokensAreOfRuns}
 use Rattle.edited_unit_laws.specs.Workspaces.{PathCuts, found_cut, cuts_in}
 use Rattle.template_rules.specs.FileLists.{all_found, lists_in, begun_before}
 use Rattle.template_meaning.specs.Accepted.{IsAccepted}
-use Rattle.template_meaning.specs.Kept.{HoldsLists}
+use Rattle.reordered.specs.Reorder.{HoldsLists}
 use Rattle.template_meaning.specs.Prototypes.{DeclaratorsHavePrototypes}
-use Rattle.template_meaning.specs.Reordered.{unit_cut}
+use Rattle.reordered.specs.Reordered.{unit_cut}
 use Rattle.template_meaning.specs.Spans.{FileSpans, is_none, cut_at, FilesStandInOrder}
 use Rattle.template_meaning.specs.Standing.{ListsHavePlaces, AcceptedListsHavePlaces}
 use Rattle.template_meaning.proofs.FilesHeld.{order_is_one, real_file, files_held}

@@ -17,8 +17,13 @@ use Rattle.template_rules.specs.Lists.{count_of}
 use Rattle.template_rules.specs.Offences.{offences_of}
 use Rattle.offences.specs.declared.refusals.Refusal.{Refusal}
 use Rattle.template_rules.specs.Template.{IsOrdered, IsNamedOrdered}
+use Rattle.analysis.proofs.ReadLemmas.{unit_files_opened}
+use Rattle.offences.specs.Class.{NamedClass}
+use Rattle.reordered.specs.Reordered.{AnalysisIsReordered}
 use Rattle.template_meaning.specs.Accepted.{IsAccepted}
-use Rattle.template_meaning.specs.Kept.{HoldsLists, AreReordered, AreMade, KeepsMeaning, ReordersOver, OrdersKeepMeaning, PlansKeepMeaning}
+use Rattle.template_meaning.specs.Kept.{OrdersKeepMeaning, PlansKeepMeaning}
+use Rattle.edited_files.specs.Edited.{AreMade}
+use Rattle.reordered.specs.Reorder.{HoldsLists, AreReordered, ReordersOver}
 use Rattle.template_meaning.proofs.EditsMade.{edits_reorder_files}
 
 no_edits : (edits : List Edit) (r : Refusal) → Ok edits ≡ Err r → ⊥
@@ -40,6 +45,11 @@ given_by a members order edits h = elim (cases_Bool (has_function members a)) [
   | inr none ↦ absurd (no_edits edits _ (h.no_function none))
 ]
 
+-- the files and the analysis once the edits are made
+record KeepsMeaning (ws : WorkspaceValue) (a : AnalysisValue) (members : List Part) (order : List ℕ) (before now : Source) : Type 0 where
+  files : AreReordered members order a before now
+  meaning : AnalysisIsReordered now ws a members order
+
 module _ (keeps : OrdersKeepMeaning)
     (held : (source : Source) (ws : WorkspaceValue) (a : AnalysisValue) (members : List Part) (order : List ℕ) → IsWorkspace ws → IsAccepted source ws a members order
     → (f : KeptValue) → HoldsLists a members f → source f.path ≡ Some f.bytes)
@@ -58,16 +68,22 @@ module _ (keeps : OrdersKeepMeaning)
   by_name ws a path line column order edits None is names h = absurd (no_edits edits _ h)
   by_name ws a path line column order edits (Some part) is names h =
       let g : IsGiven a h.members order edits = given_by a h.members order edits h.ordered in
-      record {
-        part = part;
-        named = names;
-        members = h.members;
-        class = h.are_members;
-        function = g.function;
-        ordered = g.ordered;
-        clear = g.clear;
-        kept = kept_over ws a h.members order edits is g;
-      }
+      λ before now analysed made.
+      let k = kept_over ws a h.members order edits is g before now analysed made in
+      let r : NamedClass = record { analysis = a; part = part; members = h.members } in (
+        r,
+        record {
+          analysed = analysed;
+          units = unit_files_opened before ws a is analysed;
+          named = names;
+          class = h.are_members;
+          function = g.function;
+          ordered = g.ordered;
+          clear = g.clear;
+          files = k.files;
+          meaning = k.meaning;
+        },
+      )
 
   pub plans_keep_meaning : PlansKeepMeaning
   plans_keep_meaning ws a path line column order edits is h = by_name ws a path line column order edits h.0 is h.1 h.2

@@ -19,8 +19,8 @@ use Rattle.list_cuts.specs.Spans.{all_rearranged}
 use Rattle.unit_laws.specs.Edited.{Edit, edited_found, edited_entry, edited_files, edited_source}
 use Rattle.template_rules.specs.FileLists.{all_found, lists_in}
 use Rattle.template_meaning.specs.Editing.{edit_by}
-use Rattle.template_meaning.specs.Kept.{HoldsLists, AreReordered}
-use Rattle.template_meaning.specs.Reordered.{reordered_bytes}
+use Rattle.reordered.specs.Reorder.{HoldsLists, AreReordered}
+use Rattle.reordered.specs.Reordered.{reordered_bytes}
 
 -- ---- Numbers and paths
 

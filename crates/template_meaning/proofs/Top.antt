@@ -25,7 +25,7 @@ use Rattle.edited_unit_laws.specs.Workspaces.{WorkspacesAreReordered}
 use Rattle.template_meaning.specs.Editing.{edit_by}
 use Rattle.template_meaning.specs.Kept.{OrdersKeepMeaning, PlansKeepMeaning}
 use Rattle.template_meaning.specs.Lists.{IsCut}
-use Rattle.template_meaning.specs.Reordered.{begins_list, unit_cut, moved_in, Plain, plain, NamesMove, IsReorderedUnit}
+use Rattle.reordered.specs.Reordered.{begins_list, unit_cut, moved_in, Plain, plain, NamesMove, IsReorderedUnit}
 use Rattle.template_meaning.specs.Standing.{UnitGoesOn, UnitsGoOn, ListsHavePlaces, AcceptedListsHavePlaces}
 use Rattle.template_meaning.proofs.ExternalMoved.{IsNamed, external_moved}
 use Rattle.template_meaning.proofs.PlansKept as plans

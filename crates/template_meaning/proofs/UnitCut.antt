@@ -19,7 +19,7 @@ use Rattle.template_meaning.specs.Accepted.{IsAccepted}
 use Rattle.template_meaning.specs.Children.{EachNode}
 use Rattle.template_meaning.specs.Clear.{IsOwn, UnitIsClear}
 use Rattle.template_meaning.specs.Forms.{IsBracketed, UnitListsAreBracketed, NoListIsFirst}
-use Rattle.template_meaning.specs.Reordered.{begins_list}
+use Rattle.reordered.specs.Reordered.{begins_list}
 use Rattle.template_meaning.specs.Lists.{IsCut, UnitsAreCut}
 use Rattle.template_meaning.proofs.Clear.{units_are_clear}
 use Rattle.template_meaning.proofs.UnitLists.{index_of, unit_many, unit_brackets, unit_first}

@@ -37,7 +37,7 @@ use Rattle.template_rules.specs.NameOffences.{is_prototype, has_prototype}
 use Rattle.template_rules.specs.ScopeOffences.{is_inside, declares_more}
 use Rattle.template_meaning.specs.Children.{EachNode, IsOfAlternative}
 use Rattle.template_meaning.specs.Clear.{IsOwn, ListIsClear, DeclaratorIsClear, CallIsClear, UnitIsClear}
-use Rattle.template_meaning.specs.Reordered.{begins_with, begins_list}
+use Rattle.reordered.specs.Reordered.{begins_with, begins_list}
 use Rattle.template_meaning.proofs.Forms.{IsPair, call_pair, list_pair}
 use Rattle.template_meaning.proofs.ItemForms.{IsClean}
 use Rattle.template_meaning.proofs.ItemsApart.{Frees, Between}

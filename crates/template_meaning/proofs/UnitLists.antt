@@ -33,7 +33,7 @@ use Rattle.template_rules.specs.Lists as lists
 use Rattle.template_meaning.specs.Children.{children, EachNode, IsOfAlternative}
 use Rattle.template_meaning.specs.Clear.{IsOwn}
 use Rattle.template_meaning.specs.Forms.{IsBracketed}
-use Rattle.template_meaning.specs.Reordered.{begins_with, begins_list, unit_cut}
+use Rattle.reordered.specs.Reordered.{begins_with, begins_list, unit_cut}
 use Rattle.template_meaning.proofs.Children.{children_of_alternatives, each_below}
 use Rattle.template_meaning.proofs.Bracketed.{call_bracketed, list_bracketed}
 use Rattle.template_meaning.proofs.Counted.{ListHas, InnerHave, call_have, list_have, tree_has}

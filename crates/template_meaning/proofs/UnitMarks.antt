@@ -57,7 +57,7 @@ use Rattle.template_meaning.specs.Accepted.{IsAccepted}
 use Rattle.template_meaning.specs.Children.{EachNode, IsOfAlternative}
 use Rattle.template_meaning.specs.Clear.{IsOwn, UnitIsClear, ListIsClear}
 use Rattle.template_meaning.specs.Lists.{UnitsAreCut}
-use Rattle.template_meaning.specs.Reordered.{begins_with, begins_list, unit_cut}
+use Rattle.reordered.specs.Reordered.{begins_with, begins_list, unit_cut}
 use Rattle.template_meaning.proofs.Children.{each_below}
 use Rattle.template_meaning.proofs.Clear.{units_are_clear}
 use Rattle.template_meaning.proofs.Forms.{IsPair, call_pair, list_pair, args_items, params_items}

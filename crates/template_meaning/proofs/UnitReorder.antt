@@ -36,7 +36,7 @@ use Rattle.template_rules.specs.ScopeOffences.{is_type_or_constant, is_inside, b
 use Rattle.template_meaning.specs.Children.{children, EachNode, IsOfAlternative}
 use Rattle.template_meaning.specs.Clear.{IsOwn, UnitIsClear}
 use Rattle.template_meaning.specs.Forms.{HasOuterList}
-use Rattle.template_meaning.specs.Reordered.{begins_list}
+use Rattle.reordered.specs.Reordered.{begins_list}
 use Rattle.template_meaning.proofs.FitTable.{not_these, all_nodes}
 use Rattle.template_meaning.proofs.Forms.{is_param, args_pass, params_items}
 use Rattle.template_meaning.proofs.ItemForms.{IsClean, tag_more, clean_constant, IsPart, part_behind, part_rest}

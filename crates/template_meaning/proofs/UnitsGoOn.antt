@@ -23,7 +23,7 @@ use Rattle.tree_laws.proofs.Texts.{units_agree}
 use Rattle.template_meaning.specs.Accepted.{IsAccepted}
 use Rattle.template_meaning.specs.CanReorder.{UnitsCanReorder}
 use Rattle.template_meaning.specs.Lists.{IsCut}
-use Rattle.template_meaning.specs.Reordered.{begins_list, unit_cut}
+use Rattle.reordered.specs.Reordered.{begins_list, unit_cut}
 use Rattle.template_meaning.specs.Standing.{UnitGoesOn, UnitsGoOn}
 use Rattle.template_meaning.proofs.NamesGoOn.{have_bare_names, classes_move}
 use Rattle.template_meaning.proofs.UnitCut.{units_are_cut}

@@ -7,7 +7,7 @@ use Rattle.ws_file.specs.Workspace.{WorkspaceValue}
 use Rattle.analysis.specs.Analysis.{UnitAnalysis, AnalysisValue}
 use Rattle.reordered_tree_laws.specs.Premises.{CanReorder}
 use Rattle.template_meaning.specs.Accepted.{IsAccepted}
-use Rattle.template_meaning.specs.Reordered.{begins_list}
+use Rattle.reordered.specs.Reordered.{begins_list}
 
 -- The law: the lists of the functions in each unit can get the order, whatever it is.
 abbrev pub UnitsCanReorder : Type 0

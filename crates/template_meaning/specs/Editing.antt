@@ -4,7 +4,7 @@ use Rattle.cs_base.specs.declared.positions.Part.{Part}
 use Rattle.source_files.specs.Files.{number_of}
 use Rattle.analysis.specs.Analysis.{AnalysisValue}
 use Rattle.unit_laws.specs.Edited.{Edit}
-use Rattle.template_meaning.specs.Reordered.{reordered_bytes}
+use Rattle.reordered.specs.Reordered.{reordered_bytes}
 
 -- a path is edited as the file of its number is
 abbrev pub edit_by : List Part → List ℕ → AnalysisValue → Edit

@@ -18,7 +18,7 @@ use Rattle.reordered_tree_laws.specs.Premises.{is_bracketed, has_outer_list, is_
 use Rattle.reordered_tree_laws.specs.Reordered.{is_among}
 use Rattle.template_meaning.specs.Accepted.{IsAccepted}
 use Rattle.template_meaning.specs.Children.{EachNode}
-use Rattle.template_meaning.specs.Reordered.{begins_list}
+use Rattle.reordered.specs.Reordered.{begins_list}
 
 -- a list that begins with one of these tokens is a pair of parentheses with arguments or parameters in it, or nothing
 abbrev pub IsBracketed : (ℕ → Bool) → Label → Forest → Type 0

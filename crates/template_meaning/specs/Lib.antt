@@ -1,5 +1,4 @@
 -- What a workspace is behind a new order, on one page.
-pub mod Reordered
 pub mod Kept
 pub mod Editing
 pub mod Standing

@@ -8,7 +8,7 @@ use Rattle.ws_file.specs.Workspace.{WorkspaceValue}
 use Rattle.analysis.specs.Analysis.{UnitAnalysis, AnalysisValue}
 use Rattle.list_cuts.specs.Cuts.{IsOrder, AreOf}
 use Rattle.template_meaning.specs.Accepted.{IsAccepted}
-use Rattle.template_meaning.specs.Reordered.{unit_cut}
+use Rattle.reordered.specs.Reordered.{unit_cut}
 
 -- The order has each of its numbers once, and each list of the unit, those in items of others too, has so many items.
 pub record IsCut (members : List Part) (order : List ℕ) (u : UnitAnalysis) : Type 0 where

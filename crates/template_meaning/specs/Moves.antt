@@ -9,7 +9,7 @@ use Rattle.ws_file.specs.Workspace.{WorkspaceValue}
 use Rattle.analysis.specs.Analysis.{AnalysisValue}
 use Rattle.reordered_text_laws.specs.Marks.{spans_by}
 use Rattle.template_meaning.specs.Accepted.{IsAccepted}
-use Rattle.template_meaning.specs.Kept.{HoldsLists}
+use Rattle.reordered.specs.Reorder.{HoldsLists}
 use Rattle.template_meaning.specs.Spans.{SpansMove}
 use Rattle.template_meaning.specs.Files.{file_marks}
 

@@ -15,7 +15,7 @@ use Rattle.list_cuts.specs.declared.spans.Span.{Span}
 use Rattle.edited_unit_laws.specs.Workspaces.{PathCuts, PathsStand}
 use Rattle.template_rules.specs.FileLists.{all_found, lists_in, items_of}
 use Rattle.template_meaning.specs.Editing.{edit_by}
-use Rattle.template_meaning.specs.Kept.{HoldsLists}
+use Rattle.reordered.specs.Reorder.{HoldsLists}
 
 -- the items of the lists of each file, by the numbers of its tokens
 abbrev pub FileSpans : Type 0

@@ -20,8 +20,8 @@ use Rattle.edited_unit_laws.specs.ReorderedAnalyses.{UnitCuts}
 use Rattle.edited_unit_laws.specs.Workspaces.{PathCuts, PathsStand, UnitMarks}
 use Rattle.template_rules.specs.FileLists.{all_found, lists_in}
 use Rattle.template_meaning.specs.Accepted.{IsAccepted}
-use Rattle.template_meaning.specs.Kept.{HoldsLists}
-use Rattle.template_meaning.specs.Reordered.{begins_list, unit_cut, moved_in, NamesMove}
+use Rattle.reordered.specs.Reorder.{HoldsLists}
+use Rattle.reordered.specs.Reordered.{begins_list, unit_cut, moved_in, NamesMove}
 use Rattle.template_meaning.specs.Editing.{edit_by}
 
 -- ---- a unit

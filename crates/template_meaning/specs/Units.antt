@@ -19,7 +19,7 @@ use Rattle.reordered_text_laws.specs.Trees.{IsAmong}
 use Rattle.unit_laws.specs.Reordered.{ListsStand}
 use Rattle.template_meaning.specs.Accepted.{IsAccepted}
 use Rattle.template_meaning.specs.Clear.{IsOwn}
-use Rattle.template_meaning.specs.Reordered.{unit_cut}
+use Rattle.reordered.specs.Reordered.{unit_cut}
 
 -- the lists that belong to the functions
 abbrev pub own_lists : List Part → UnitAnalysis → List NameList

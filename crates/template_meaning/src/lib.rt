@@ -1,8 +1,8 @@
 //! What a new order of the parameters of a function keeps of a workspace, and what is so where nothing stands against
 //! it (this project's, over ISO/IEC 9899:1999, 5.1.1.2, 6.2.1, 6.5.2.2, 6.7.5.3 and 6.10.3).
 //!
-//! `specs/Reordered.antt` says on one page what the workspace is behind the edit: its files, and each unit's tokens,
-//! tree and names. That an accepted order makes it so is the law `orders_keep_meaning`. It rests on laws of the crates
+//! `reordered` says what the workspace is behind the edit: its files, and each unit's tokens, tree and names. That an
+//! accepted order makes it so is the law `orders_keep_meaning`. It rests on laws of the crates
 //! `expansion_laws`, `reordered_tree_laws` and `reordered_text_laws`, which ask that no list comes from a macro, that
 //! items have no say in each other, and so on; this crate proves that it is so where none of the offences of
 //! `template_rules` stands. No program stands here: a law is the `ensures` of a function.
@@ -33,6 +33,6 @@ pub use lists::{
 };
 pub use runs::{
     accepted_lists_have_places, file_lists_move, files_have_lists, items_stand, lists_are_even,
-    orders_keep_meaning, units_have_lists,
+    orders_keep_meaning, refusals_are_one, units_have_lists,
 };
 pub use trees::{children_are_of_alternatives, tokens_may_stand, trees_have_forms};

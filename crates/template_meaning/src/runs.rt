@@ -1,6 +1,6 @@
 // What is so of the marks of lists where nothing stands against a new order: laws that no caller runs.
 ghost use Rattle.template_meaning.specs.Even.{ListsAreEven};
-ghost use Rattle.template_meaning.specs.Kept.{OrdersKeepMeaning, PlansKeepMeaning};
+ghost use Rattle.template_meaning.specs.Kept.{OrdersKeepMeaning, PlansKeepMeaning, RefusalsAreOne};
 ghost use Rattle.template_meaning.specs.Standing.{AcceptedListsHavePlaces};
 ghost use Rattle.template_meaning.specs.Files.{FilesHaveLists};
 ghost use Rattle.template_meaning.specs.Items.{ItemsStand};
@@ -100,3 +100,8 @@ pub fn orders_keep_meaning()
     accepted_lists_have_places();
     paths_stand_once();
 }
+
+/// A new order is refused for its offences in one way: what is named first is one place and one cause.
+pub fn refusals_are_one()
+    ensures { RefusalsAreOne }
+{}

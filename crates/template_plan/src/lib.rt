@@ -5,7 +5,7 @@
 //! file that holds a list of the functions which the place names, or says that the place names nothing or no function,
 //! that the numbers are no order, or which offence stands first: that is the work of `template_rules`. Over each source
 //! that has the analysis, once the edits are made, the workspace means what it meant (`ReordersOver` of
-//! `template_meaning`). It reads and writes no files. The law behind it is `orders_keep_meaning` of `template_meaning`:
+//! `reordered`). It reads and writes no files. The law behind it is `orders_keep_meaning` of `template_meaning`:
 //! there the laws on units, runs and files meet.
 #![tactic(auto)]
 

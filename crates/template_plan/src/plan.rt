@@ -2,7 +2,7 @@
 ghost use Rattle.std.specs.Prelude.{IfOk};
 ghost use Rattle.offences.specs.Answers.{GivesOne};
 ghost use Rattle.offences.specs.Refusals.{refusal_of};
-ghost use Rattle.template_meaning.specs.Kept.{ReordersOver};
+ghost use Rattle.reordered.specs.Reorder.{ReordersOver};
 ghost use Rattle.template_rules.specs.Template.{IsTemplate};
 
 use analysis::Analysis;

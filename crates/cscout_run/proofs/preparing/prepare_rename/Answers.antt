@@ -2,7 +2,7 @@ use Rattle.std.proofs.Common.{Err, refl, sym, subst}
 use Rattle.analysis.specs.Analysis.{analysis_of}
 use Rattle.analysis.specs.Below.source_files.Files.{source_of}
 use Rattle.cs_base.specs.Outside.{FileMap}
-use Rattle.ws_file.specs.Workspace.{WorkspaceValue, IsWorkspace}
+use Rattle.ws_file.specs.Workspace.{WorkspaceValue}
 use Rattle.cscout_run.specs.declared.stops.Stop.{Stop}
 use Rattle.command_words.specs.Request.{RenameValue, renaming_asked}
 use Rattle.cscout_run.specs.Answer.{Answer, IsRenameAnswer, IsRequestAnswer}
@@ -43,4 +43,4 @@ returns-clause-answer g c =
 pub returns-in-Ok-clause-planned : goal.returns-in-Ok-clause-planned
 returns-in-Ok-clause-planned g c =
     planned_told (g.F.Files.told c.args.files.now).held (g.F.Files.told c.read_workspace.new.files).held (rename_value c.args.rename.now) c.in_ok-ws.ws c.in-Ok.analysis.value
-    c.planned-answer.result (subst (λ (w : WorkspaceValue). IsWorkspace w) c.ws.view_is c.ws.invariant) c.read_workspace.ensures.faults.held c.in_ok-ws.ensures.answer c.in-Ok.ensures.answer c.in-Ok.analysis.classes c.in-Ok.ensures.whole.1 c.files-files.ensures.once c.planned-answer.ensures.renaming c.planned-answer.ensures.sound
+    c.planned-answer.result c.read_workspace.ensures.faults.held c.in_ok-ws.ensures.answer c.in-Ok.ensures.answer c.planned-answer.ensures.over c.planned-answer.ensures.sound

@@ -8,11 +8,11 @@ use Rattle.std.specs.Option.{option_map, option_map_or}
 use Rattle.cs_base.specs.declared.positions.Part.{Part}
 use Rattle.cs_base.specs.declared.tokens.Kind.{Kind}
 use Rattle.cs_base.specs.Token.{Token}
-use Rattle.c_types.specs.declared.lists.List.{List as NameList}
-use Rattle.scope_bind.specs.declared.bound.Name.{Name}
-use Rattle.scope_bind.specs.Names.{entity_at, declares_at, kind_at, linkage_at}
-use Rattle.lexer.specs.Tokens.{tokens_of}
-use Rattle.source_files.specs.Files.{Source}
+use Rattle.analysis.specs.Below.c_types.declared.lists.List.{List as NameList}
+use Rattle.analysis.specs.Below.scope_bind.declared.bound.Name.{Name}
+use Rattle.analysis.specs.Below.scope_bind.Names.{entity_at, declares_at, kind_at, linkage_at}
+use Rattle.analysis.specs.Below.lexer.Tokens.{tokens_of}
+use Rattle.analysis.specs.Below.source_files.Files.{Source}
 use Rattle.ws_file.specs.Workspace.{WorkspaceValue}
 use Rattle.analysis.specs.Analysis.{UnitAnalysis, AnalysisValue, analysis_of}
 use Rattle.analysis.specs.Changed.{edited_table, denote_one}

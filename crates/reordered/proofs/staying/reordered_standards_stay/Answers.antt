@@ -1,0 +1,5 @@
+use Rattle.reordered.proofs.StayLemmas as stay
+use Rattle.reordered.proofs.staying.reordered_standards_stay.Goals as goal
+
+pub returns : goal.returns
+returns c = stay.reordered_standards_stay

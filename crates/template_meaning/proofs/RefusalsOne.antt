@@ -1,0 +1,14 @@
+-- A new order is refused in one way: the first offence, its place and its cause, is one.
+use Rattle.std.proofs.Common.{sym, ◌∙◌}
+use Rattle.analysis.proofs.OnceLemmas.{paths_once}
+use Rattle.edited_unit_laws.proofs.AnalysedUnitLemmas.{no_lines, lines_first}
+use Rattle.offences.proofs.TiedLemmas.{one_refusal}
+use Rattle.template_rules.specs.Lists.{count_of}
+use Rattle.template_rules.specs.Offences.{offences_of}
+use Rattle.template_meaning.specs.Kept.{RefusalsAreOne}
+
+pub refusals_are_one : RefusalsAreOne
+refusals_are_one = λ source ws a members order x y is analysed p q.
+    p.2
+    ∙ (one_refusal a (paths_once source ws a is analysed) (no_lines source ws a analysed) (lines_first source ws a analysed) (offences_of a members (count_of a members)) p.0 q.0 p.1 q.1
+    ∙ sym q.2)
