@@ -1,7 +1,7 @@
 -- A batch behind some of its lines.
 use Rattle.std.proofs.Common.{◌≡◌, ◌++◌, ℕ, Bool, true, false, ◌||◌, List, [], ◌∷◌, Ok, refl, ap, sym, subst, ◌∙◌, append_assoc}
 use Rattle.std.specs.List.{flat_map, list_any}
-use Rattle.cs_base.specs.Edit.{Edit, with_edits, IsKept}
+use Rattle.cs_base.specs.Edit.{Edit, with_edits}
 use Rattle.cs_base.specs.Outside.{FileMap}
 use Rattle.batch_run.specs.Line.{LineValue}
 use Rattle.ws_file.specs.Workspace.{WorkspaceValue}
@@ -9,12 +9,10 @@ use Rattle.analysis.specs.Below.source_files.Files.{Source, source_of}
 use Rattle.analysis.specs.Below.source_files.Tables.{AreFound, HasEachOnce}
 use Rattle.analysis.proofs.Below.source_files.AgreeLemmas.{some_source}
 use Rattle.analysis.specs.Analysis.{AnalysisValue, analysis_of}
-use Rattle.batch_run.specs.declared.running.Batched.{Batched}
 use Rattle.batch_run.specs.declared.stepping.Batching.{Batching}
 use Rattle.batch_run.specs.Batch.{Plan, IsLine, IsBatch, after, after_each, plan_text, is_refused}
 use Rattle.batch_run.specs.Keeping.{KeepsLine, KeepsLines}
-use Rattle.batch_run.specs.Running.{IsRun}
-use Rattle.batch_run.specs.Stepping.{AreOf, IsReady, RunTo, Steps}
+use Rattle.batch_run.specs.Stepping.{IsReady, RunTo, Steps}
 use Rattle.batch_run.proofs.SettledAnalyses.{analysis_settles, kept_agree, kept_files}
 
 -- ---- the last of some lines
@@ -117,20 +115,3 @@ run_first ws s once over none = (
   subst (λ (es : List Edit). analysis_of (source_of (with_edits es (kept_files s.analysis.value.table))) ws ≡ Ok s.analysis.value) (sym none)
       (kept_over ws s.analysis.value once over),
 )
-
-pub run_all : (ws : WorkspaceValue) (files : FileMap) (lines : List LineValue) (first s : Batching) (b : Batched) (r : RunTo ws first lines s)
-    → analysis_of (source_of files) ws ≡ Ok first.analysis.value → first.text.items ≡ [] → first.refused ≡ false → first.edits ≡ []
-    → b.text.items ≡ s.text.items → b.refused ≡ s.refused → b.edits ≡ s.edits → IsKept s.edits → IsRun ws files lines b r.plans
-run_all ws files lines first s b r there no_text no_refusal no_edits text refused edits sound =
-    let over : AreOf ws first files =
-    subst (λ (es : List Edit). analysis_of (source_of (with_edits es files)) ws ≡ Ok first.analysis.value) (sym no_edits) there in
-    let behind = r.over files over in
-    record {
-      analysed = (first.analysis.value, there);
-      answers = subst (λ (es : List Edit). IsBatch ws files es lines r.plans) no_edits behind.0;
-      keeps = subst (λ (es : List Edit). KeepsLines ws files es lines r.plans) no_edits behind.1;
-      text = text ∙ r.text ∙ ap (λ (xs : List ℕ). xs ++ flat_map plan_text r.plans) no_text;
-      refused = refused ∙ r.refused ∙ ap (λ (x : Bool). x || list_any is_refused r.plans) no_refusal;
-      edits = edits ∙ r.edits ∙ ap (λ (es : List Edit). after_each r.plans es) no_edits;
-      sound = subst IsKept (sym edits) sound;
-    }

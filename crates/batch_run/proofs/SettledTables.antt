@@ -171,10 +171,6 @@ open_settles ctx place path s h =
     with_settles s (opening ctx.limits ctx.reader place path s.table)
     (opened_settles ctx.limits ctx.reader place path s.table (found_at path s.table) refl h)
 
-pub open_all : (ctx : Context) (place : Place) (path : List ℕ) (s : State) → AreSettled s.table
-    → IfDone (Stays {A = SourceFile} AreSettled) (open_file ctx place path s)
-open_all ctx place path s h = open_settles ctx place path s (but_all path s.table h)
-
 searched_settles : (ctx : Context) (file : SourceFile) (at : Pos) (s : State) (found : Searched) (o : Option (List ℕ)) → SettledSearch o found.table
     → IfDone (Stays {A = SourceFile} AreSettled) (open_searched ctx file at s found o)
 searched_settles ctx file at s found None h = tt

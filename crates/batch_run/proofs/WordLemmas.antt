@@ -4,7 +4,7 @@ use Rattle.std.specs.Prelude.{◌&&◌, IsUtf8, None, codes, nat_lt, slice_index
 use Rattle.std.specs.Borrow.{Bor}
 use Rattle.std.specs.List.{list_all, join_with_byte}
 use Rattle.std.specs.Str.{bytes_eq, is_utf8}
-use Rattle.std.proofs.lemmas.Bool.{cases_Bool, eqb-true, le-ltb, lt-ltb, and_from, and_parts}
+use Rattle.std.proofs.lemmas.Bool.{cases_Bool, eqb-true, le-ltb, and_from, and_parts}
 use Rattle.std.proofs.lemmas.List.{reverse-append, reverse-reverse, take_at}
 use Rattle.std.proofs.lemmas.List.Splits.{join_with_byte-slice_split}
 use Rattle.std.proofs.lemmas.Str.{IsUtf8-from_is_utf8, is_utf8-from_IsUtf8, IsUtf8-nil}
@@ -113,11 +113,6 @@ without_return_utf8 true line h = elim (cases_Bool (ends_with (λ b. b == carria
 ]
 
 -- ---- a line
-
--- a line that ends past the limit is bad, and so is one that is no UTF-8
-pub line_at-past : (size start : ℕ) (line : List ℕ) → 2 ^ 22 < start + length line → line_at size start line ≡ None
-unfolding line_at
-line_at-past size start line past = rw (lt-ltb (2 ^ 22) (start + length line) past) refl
 
 -- each other line asks for what its words ask for
 pub line_at-words : (size start : ℕ) (line : List ℕ) → start + length line ≤ 2 ^ 22 → is_utf8 line ≡ true

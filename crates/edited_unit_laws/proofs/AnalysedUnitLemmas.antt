@@ -133,18 +133,6 @@ pub record IsUnit (table : Table) (u : UnitAnalysis) : Type 0 where
   pub own : text.text ≡ u.text
   pub grown : IsGrown text.after.table table
 
-unit_later : (old new : Table) (u : UnitAnalysis) → IsGrown old new → IsUnit old u → IsUnit new u
-unit_later old new u more h = record {
-  source = h.source;
-  number = h.number;
-  unit = h.unit;
-  before = h.before;
-  text = h.text;
-  is_text = h.is_text;
-  own = h.own;
-  grown = (let text = h.text in grown_trans text.after.table old new h.grown more);
-}
-
 pub bound_text : (standard : Standard) (table : Table) (path : List ℕ) (text : UnitTextValue) (u : UnitAnalysis) → read_unit standard table path text ≡ Ok u → text ≡ u.text
 bound_text standard table path text u e =
     let r = done_first {E = Fault} _ (bound_unit standard table path text) u e in

@@ -90,13 +90,6 @@ module _ (c : Change) (names : KeepsNames c) where
       by true = k
       by false = each-both (IsTaken c) s.names (name ∷ []) k (h, tt)
 
-  with_name-macros : (name : Token) (s : State) → (with_name name s).macros ≡ s.macros
-  with_name-macros name s = by (is_some (spelled_in s.names name.text))
-    where
-      by : (b : Bool) → (cond b s (record s { names = s.names ++ name ∷ [] })).macros ≡ s.macros
-      by true = refl
-      by false = refl
-
   pub with_name-kept : (name : Token) (macros : Macros) (s : State) → IsTaken c name → KeepsState c macros s → KeepsState c macros (with_name name s)
   with_name-kept name macros s h kept = by (is_some (spelled_in s.names name.text))
     where

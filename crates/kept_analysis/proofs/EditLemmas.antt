@@ -71,11 +71,6 @@ one_same edit number (suc k) (x ∷ table) o e is = ap (λ (t : Table). x ∷ t)
 pub one_stays : (edit : List ℕ → List ℕ) (number : ℕ) (table : Table) → IsNew edit (kept_at table number) None → table ≡ edited_one edit number table
 one_stays edit number table is = one_same edit number number table (kept_at table number) refl is
 
--- what has new bytes is kept
-pub new_kept : (edit : List ℕ → List ℕ) (o : Option KeptValue) (bytes : List ℕ) → IsNew edit o (Some bytes) → (f : KeptValue) × (o ≡ Some f)
-new_kept edit None bytes is = absurd is
-new_kept edit (Some f) bytes is = (f, refl)
-
 -- ---- all entries
 
 pub front_none : (edit : Editing) (table : Table) → table ≡ edited_front edit 0 0 table

@@ -62,18 +62,6 @@ next_place members name number bytes n less =
     ∙ (ap length (sym (text_is members name (pos number n) c)) ∙ size_is name (put_at members (pos number n)) c) in
     omega (arith, more, size, on)
 
-pub places_begin : (members : List Part) (name : List ℕ) (number : ℕ) (bytes : List ℕ) → ArePlaces members name number bytes 0 [] 0
-places_begin members name number bytes = record {
-  each = λ at d less. absurd (omega (arith, less));
-  count = refl;
-  within = omega arith;
-  next = first (text_in bytes);
-}
-  where
-    first : (text : List ℕ) → 0 ≡ length (respell (putting members name number) 0 (take 0 text))
-    first [] = refl
-    first (c ∷ cs) = refl
-
 pub places_more : (members : List Part) (name : List ℕ) (number : ℕ) (bytes : List ℕ) (n : ℕ) (old new : List ℕ) (end after : ℕ) (puts : List Put) (put : Put) → n < length puts
     → length puts ≡ length (text_in bytes) → put ≡ get_or puts n put → ArePuts members number puts
     → new ≡ old ++ end ∷ [] → after ≡ end + size_of name put → ArePlaces members name number bytes n old end → ArePlaces members name number bytes (n + 1) new after

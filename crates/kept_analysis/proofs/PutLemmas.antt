@@ -1,7 +1,7 @@
 -- What stands for the characters of a file, once member after member is put in.
-use Rattle.std.proofs.Common.{◌≡◌, ℕ, zero, suc, ◌+◌, ◌-◌, ◌<◌, ◌≤◌, Bool, true, false, ◌==◌, if◌then◌else◌, List, [], ◌∷◌, length, drop, get_or, slice_set, replicate, ◌⊎◌, inl, inr, refl, sym, ap, subst, ◌∙◌, arith}
-use Rattle.std.proofs.lemmas.Bool.{cases_Bool, cases_eq, cases_lt, eq-eqb, ne_eqb, false_from_ne_true}
-use Rattle.std.proofs.lemmas.List.{get_or-replicate, get_or-set_same, get_or-set_other, length-set, length-replicate, drop_more, drop_all}
+use Rattle.std.proofs.Common.{◌≡◌, ℕ, zero, suc, ◌+◌, ◌-◌, ◌<◌, ◌≤◌, Bool, true, false, ◌==◌, if◌then◌else◌, List, ◌∷◌, length, drop, get_or, slice_set, ◌⊎◌, inl, inr, refl, sym, ap, subst, ◌∙◌, arith}
+use Rattle.std.proofs.lemmas.Bool.{cases_Bool, cases_eq, cases_lt, eq-eqb, ne_eqb}
+use Rattle.std.proofs.lemmas.List.{get_or-set_same, get_or-set_other, length-set, drop_more}
 use Rattle.cs_base.specs.declared.positions.Part.{Part}
 use Rattle.cs_base.specs.declared.positions.Pos.{Pos}
 use Rattle.analysis.specs.Below.lexer.Places.{pos}
@@ -88,16 +88,7 @@ adds_by m file old new same all marks = subst (λ (n : ℕ). AddsMember n m old 
 pub marks_end : (m : Part) (n : ℕ) (old new : List Put) → m.len ≤ n → n ≤ m.len → MarksTo m n old new → MarksTo m m.len old new
 marks_end m n old new past within marks = let same : n ≡ m.len = omega (arith, past, within) in subst (λ (k : ℕ). MarksTo m k old new) same marks
 
--- a member of another file
-pub adds_other : (m : Part) (file : ℕ) (puts : List Put) → (m.start.file ≡ file → ⊥) → AddsMember file m puts puts
-adds_other m file puts apart members are at within =
-    are at within
-    ∙ sym (other_put m members (pos file at) (false_from_ne_true (holds m (pos file at)) (λ held. apart (holding m (pos file at) held).file)))
-
 -- ---- all of them, the last one first
-
-pub puts_none : (size file : ℕ) → ArePuts [] file (replicate size Character)
-puts_none size file at within = get_or-replicate size at Character Character (omega (arith, within, length-replicate size Character))
 
 abbrev pub no_part : Part
 no_part = record { start = record { file = 0; at = 0 }; len = 0 }
@@ -116,12 +107,3 @@ pub puts_more : (members : List Part) (file k : ℕ) (m : Part) (old new : List 
     → AddsMember file m old new → ArePuts (drop (length members - k) members) file old → ArePuts (drop (length members - (k + 1)) members) file new
 puts_more members file k m old new less is adds puts =
     subst (λ (ms : List Part). ArePuts ms file new) (sym (drop_last members k m less is)) (adds (drop (length members - k) members) puts)
-
-pub puts_begin : (members : List Part) (file : ℕ) (puts : List Put) → ArePuts [] file puts → ArePuts (drop (length members - 0) members) file puts
-puts_begin members file puts are =
-    subst (λ (ms : List Part). ArePuts ms file puts) (sym (drop_all (length members - 0) members (omega arith))) are
-
-pub puts_end : (members : List Part) (file k : ℕ) (puts : List Put) → length members ≤ k → ArePuts (drop (length members - k) members) file puts → ArePuts members file puts
-puts_end members file k puts past are =
-    let none : length members - k ≡ 0 = omega (arith, past) in
-    subst (λ (n : ℕ). ArePuts (drop n members) file puts) none are

@@ -122,9 +122,6 @@ module _ (m : Moves) where
       let s = length-append (spell_of m o c) (spell_by m os cs) in
       omega (arith, one, rest, t, s)
 
-  and_both : (b c : Bool) → b ≡ true → c ≡ true → (b && c) ≡ true
-  and_both b c e f = rw (e, f) refl
-
   pub all_traced : (os : List (Option Pos)) (cs : List ℕ) → IsTrue (list_all is_some os) → IsTrue (list_all is_some (trace_by m os cs))
   unfolding trace_by
   all_traced [] cs h = h

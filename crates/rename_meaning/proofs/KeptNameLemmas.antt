@@ -17,7 +17,6 @@ use Rattle.lexer.specs.Spelling.{is_punctuator_text}
 use Rattle.line_shape.specs.Signs.{is_identifier, is_name}
 use Rattle.analysis.specs.Below.linkage_join.Linkage.{links_of as external_links}
 use Rattle.unit_steps.specs.Below.macro_expand.Renaming.{Renaming}
-use Rattle.unit_steps.specs.declared.events.Event.{Event}
 use Rattle.unit_steps.specs.Texts.{UnitTextValue}
 use Rattle.part_respell.specs.Respelled.{spelled}
 use Rattle.expansion_laws.specs.Spelled.{fits, is_spelled}
@@ -124,9 +123,6 @@ module _ (a : Analysed) (members : List Part) (name : List ℕ) (h : IsAllowed a
       let outside : List Link = external_links (names_of_units a.value.workspace.units a.value.units) in
       let here : In l (unit_links u) = in_left l u.text.links (occurrence_links u.bound.names u.text.toks 0 u.text.toks) j in
       linked_stay_alike a members name h l (in_filter are_alike l (own ++ outside) is (in_left l own outside (in_flat unit_links a.value.units u l i here)))
-
-  told_has : (P : Token → Type 0) → ((e : Event) → In e u.text.events → (t : Token) → e.name ≡ Some t → P t) → (t : Token) → IsTold u.text t → P t
-  told_has P each t told = each told.event told.among t told.named
 
   told_occurs : (t : Token) → IsTold u.text t → Occurs a.value t
   told_occurs t told =

@@ -1,5 +1,5 @@
 -- Labels of the characters of a table whose classes are those of another, moved.
-use Rattle.std.proofs.Common.{◌≡◌, ℕ, zero, suc, ◌+◌, ◌-◌, ◌*◌, ◌<◌, ◌≤◌, ◌&&◌, Bool, true, false, cond, List, [], ◌∷◌, map, length, Option, None, Some, inl, inr, refl, sym, ap, subst, ◌∙◌, arith}
+use Rattle.std.proofs.Common.{◌≡◌, ℕ, zero, ◌+◌, ◌-◌, ◌*◌, ◌<◌, ◌≤◌, ◌&&◌, Bool, true, false, cond, List, map, length, Option, None, Some, inl, inr, refl, sym, ap, subst, ◌∙◌, arith}
 use Rattle.std.specs.Prelude.{slice_get, option_map, nat_eq, nat_lt}
 use Rattle.std.specs.List.{count_by}
 use Rattle.std.proofs.lemmas.Bool.{cases_Bool, cases_lt, cases_eq, eqb-true, eq-eqb, ne_eqb, ltb-true, lt-ltb, false_from_ne_true}
@@ -8,11 +8,10 @@ use Rattle.cs_base.specs.declared.positions.Part.{Part}
 use Rattle.cs_base.specs.declared.positions.Pos.{Pos}
 use Rattle.analysis.specs.Below.eclass_map.ClassTable.{Table, Spot, label, class_in, members_of, part_from, part_of, Same, IsHeld, IsStart, IsPart, HasParts}
 use Rattle.analysis.specs.Below.eclass_map.Positions.{along, holds}
-use Rattle.analysis.specs.Below.eclass_map.Resized.{Resizes, begins_before, members_before, moved_to, moved_part}
+use Rattle.analysis.specs.Below.eclass_map.Resized.{Resizes, begins_before, moved_to, moved_part}
 use Rattle.analysis.proofs.Below.eclass_map.TokenFacts.{holding}
 use Rattle.edited_unit_laws.proofs.ListLemmas.{In}
-use Rattle.rename_meaning.proofs.MoveLemmas.{one_if, counted_total}
-use Rattle.rename_meaning.proofs.SameElementLemmas.{total, mapped_at, pos_is}
+use Rattle.rename_meaning.proofs.SameElementLemmas.{mapped_at, pos_is}
 
 abbrev pub spot : ℕ → ℕ → Spot
 spot c o = record { class = c; offset = o }
@@ -58,12 +57,6 @@ first_label t h part c e =
 
 -- ---- members before a character
 
-count_same : (f g : Part → Bool) (ms : List Part) → ((m : Part) → In m ms → f m ≡ g m) → total (λ (m : Part). one_if (f m)) ms ≡ total (λ (m : Part). one_if (g m)) ms
-count_same f g [] h = refl
-count_same f g (m ∷ ms) h =
-    ap (λ (b : Bool). one_if b + total (λ (x : Part). one_if (f x)) ms) (h m (0, refl))
-    ∙ ap (λ (k : ℕ). one_if (g m) + k) (count_same f g ms (λ x i. h x (suc i.0, i.1)))
-
 module _ (t : Table) (h : HasParts t) (c : ℕ) (part : Part) (d : ℕ) (of : class_in t part ≡ Some d) (apart : d ≡ c → ⊥) (o : ℕ) (less : o < part.len) where
   -- a member that begins before a character of the part begins before the part
   earlier : (m : Part) → In m (members_of t c) → m.start.file ≡ part.start.file → m.start.at < part.start.at + o → m.start.at < part.start.at
@@ -102,13 +95,6 @@ module _ (t : Table) (h : HasParts t) (c : ℕ) (part : Part) (d : ℕ) (of : cl
       by true e = ap (λ (b : Bool). nat_eq m.start.file part.start.file && b) (lt_same (eqb-true m.start.file part.start.file e))
       by false e =
           ap (λ (b : Bool). b && nat_lt m.start.at (part.start.at + o)) e ∙ sym (ap (λ (b : Bool). b && nat_lt m.start.at part.start.at) e)
-
-  -- so as many begin before it as before the part
-  pub inside_before : members_before c t (along part.start o) ≡ members_before c t part.start
-  inside_before =
-      sym (counted_total (begins_before (along part.start o)) (members_of t c))
-      ∙ (count_same (begins_before (along part.start o)) (begins_before part.start) (members_of t c) same_test
-      ∙ counted_total (begins_before part.start) (members_of t c))
 
 -- ---- a table whose classes have moved
 

@@ -1,5 +1,5 @@
 -- New spellings of tokens: what holds no member stays, and what is made of tokens is spelled as they are.
-use Rattle.std.proofs.Common.{◌≡◌, ℕ, zero, suc, ◌+◌, ◌<◌, ◌||◌, Bool, true, false, List, [], ◌∷◌, ◌++◌, length, Option, None, Some, is_some, refl, append_assoc, arith}
+use Rattle.std.proofs.Common.{◌≡◌, ℕ, zero, suc, ◌+◌, ◌<◌, ◌||◌, Bool, true, false, List, [], ◌∷◌, length, Option, None, Some, is_some, refl, arith}
 use Rattle.std.specs.Prelude.{slice_get}
 use Rattle.std.specs.List.{list_any}
 use Rattle.std.specs.Option.{option_map_or, option_and_then}
@@ -32,17 +32,6 @@ spelled-kept members name (o ∷ origins) (c ∷ text) same none =
     let both = or_parts (is_from members o) (list_any (is_from members) origins) none in
     let rest = spelled-kept members name origins text (omega (arith, same)) both.1 in
     rw (for_kept members name o c both.0, rest) refl
-
--- the new spelling of a text and of one behind it
-pub spelled-append : (members : List Part) (name : List ℕ) (os ps : List (Option Pos)) (xs ys : List ℕ) → length os ≡ length xs
-    → spelled_from members name (os ++ ps) (xs ++ ys) ≡ spelled_from members name os xs ++ spelled_from members name ps ys
-unfolding spelled_from
-spelled-append members name [] ps [] ys same = refl
-spelled-append members name [] ps (c ∷ xs) ys same = absurd (omega (arith, same))
-spelled-append members name (o ∷ os) ps [] ys same = absurd (omega (arith, same))
-spelled-append members name (o ∷ os) ps (c ∷ xs) ys same =
-    let rest = spelled-append members name os ps xs ys (omega (arith, same)) in
-    rw (rest, append_assoc (put_for members name o c) (spelled_from members name os xs) (spelled_from members name ps ys)) refl
 
 -- characters put one for one are spelled alike
 pub record PutAlike (members : List Part) (name : List ℕ) (os ps : List (Option Pos)) : Type 0 where

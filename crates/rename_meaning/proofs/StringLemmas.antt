@@ -1,7 +1,7 @@
 -- Strings under a renaming: what stands for the characters of a string is the string of what stands for those of its tokens.
 use Rattle.std.proofs.Common.{◌≡◌, ℕ, ◌+◌, ◌&&◌, ◌||◌, Bool, true, false, if◌then◌else◌, List, [], ◌∷◌, ◌++◌, length, map, Option, Some, None, inl, inr, refl, sym, ap, subst, ◌∙◌, append_assoc, append-nil, arith}
-use Rattle.std.specs.List.{flat_map, list_all, list_any}
-use Rattle.std.proofs.lemmas.Bool.{cases_Bool, and_parts, or_parts, both_ways}
+use Rattle.std.specs.List.{flat_map, list_all}
+use Rattle.std.proofs.lemmas.Bool.{cases_Bool, and_parts}
 use Rattle.std.proofs.lemmas.Grind.{flat_map-append}
 use Rattle.std.proofs.Math.Bool.{and-false}
 use Rattle.cs_base.specs.declared.positions.Part.{Part}
@@ -92,14 +92,6 @@ abbrev pub AllFine : List Part → List (Option Pos) → List ℕ → Type 0
 AllFine members [] cs = Unit {0}
 AllFine members (o ∷ os) [] = Unit {0}
 AllFine members (o ∷ os) (c ∷ cs) = IsFine members o c × AllFine members os cs
-
--- so it is where none does
-pub fine_free : (members : List Part) (os : List (Option Pos)) (cs : List ℕ) → list_any (is_from members) os ≡ false → AllFine members os cs
-fine_free members [] cs free = tt
-fine_free members (o ∷ os) [] free = tt
-fine_free members (o ∷ os) (c ∷ cs) free =
-    let both = or_parts (is_from members o) (list_any (is_from members) os) free in
-    (λ from. absurd (both_ways (is_from members o) both.0 from), fine_free members os cs both.1)
 
 module _ (a : AnalysisValue) (members : List Part) (name : List ℕ) (words : list_all is_word name ≡ true) where
   words_for : (o : Option Pos) (c : ℕ) → is_word c ≡ true → list_all is_word (put_for members name o c) ≡ true

@@ -1,17 +1,16 @@
 -- Tables of old and new spellings.
-use Rattle.std.proofs.Common.{◌≡◌, ℕ, ◌+◌, ◌<◌, ◌≤◌, Bool, true, false, List, [], ◌∷◌, ◌++◌, length, take, get_or, inl, inr, refl, sym, ap, ◌∙◌}
+use Rattle.std.proofs.Common.{◌≡◌, ℕ, ◌+◌, Bool, true, false, List, [], ◌∷◌, ◌++◌, inl, inr, refl, sym, ap, ◌∙◌}
 use Rattle.std.specs.Prelude.{◌||◌, ◌&&◌}
 use Rattle.std.specs.List.{list_any}
 use Rattle.std.specs.Str.{bytes_eq}
 use Rattle.std.proofs.lemmas.Bool.{cases_Bool, and_parts}
-use Rattle.std.proofs.lemmas.List.{take_more, take_all}
 use Rattle.std.proofs.lemmas.List.Folds.{list_any-append}
 use Rattle.std.proofs.lemmas.Slice.Eq.{bytes_eq-Decides}
 use Rattle.std.proofs.Math.Bool.{or-false}
 use Rattle.cs_base.specs.declared.positions.Part.{Part}
 use Rattle.cs_base.specs.Token.{Token}
 use Rattle.part_respell.specs.Respelled.{spelled}
-use Rattle.rename_rules.specs.Respellings.{RespellingValue, respelling, respelling_of, Adds, AreRespellings, is_old, is_new, is_clash}
+use Rattle.rename_rules.specs.Respellings.{RespellingValue, respelling, Adds, AreRespellings, is_old, is_new, is_clash}
 use Rattle.rename_rules.specs.Tokens.{clashes}
 
 or_again : (a b : Bool) → ((a || b) || a) ≡ (a || b)
@@ -46,27 +45,6 @@ adds_known r (x ∷ table) h test =
 pub adds_new : (r : RespellingValue) (table : List RespellingValue) → Adds r table (table ++ r ∷ [])
 adds_new r table test =
     list_any-append test table (r ∷ []) ∙ ap (λ (b : Bool). list_any test table || b) (or-false (test r))
-
--- one token more
-pub respellings_more : (members : List Part) (name : List ℕ) (toks : List Token) (k : ℕ) (t : Token) (old new : List ℕ) (table more : List RespellingValue)
-    → k < length toks → t ≡ get_or toks k t → old ≡ t.text → new ≡ spelled members name t
-    → AreRespellings members name (take k toks) table → Adds (respelling old new) table more
-    → AreRespellings members name (take (k + 1) toks) more
-respellings_more members name toks k t old new table more h is was now so_far adds test =
-    let next : take (k + 1) toks ≡ take k toks ++ t ∷ [] = take_more toks k t h ∙ ap (λ (u : Token). take k toks ++ u ∷ []) (sym is) in
-    let f : Token → Bool = λ u. test (respelling_of members name u) in
-    let added : list_any test more ≡ (list_any test table || test (respelling_of members name t)) =
-    adds test ∙ ap (λ (r : RespellingValue). list_any test table || test r)
-    (ap (λ (text : List ℕ). respelling text new) was ∙ ap (λ (text : List ℕ). respelling t.text text) now) in
-    added
-    ∙ ap (λ (b : Bool). b || f t) (so_far test)
-    ∙ ap (λ (b : Bool). list_any f (take k toks) || b) (sym (or-false (f t)))
-    ∙ sym (list_any-append f (take k toks) (t ∷ []))
-    ∙ ap (list_any f) (sym next)
-
-pub respellings_all : (members : List Part) (name : List ℕ) (toks : List Token) (k : ℕ) (table : List RespellingValue)
-    → length toks ≤ k → AreRespellings members name (take k toks) table → AreRespellings members name toks table
-respellings_all members name toks k table h so_far = rw (← take_all k toks h) so_far
 
 -- ---- what the table tells
 

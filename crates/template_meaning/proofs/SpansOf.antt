@@ -203,10 +203,6 @@ begun_one number bytes i t e =
         let one = ap (λ (x : Token). x.at.at) (same_Some u t (sym g ∙ ap (slice_get (tokens_of number bytes)) same ∙ e)) in
         le-leb u.at.at t.at.at (omega (arith, one))
 
--- a token of the file begins at the character
-abbrev IsPlaceIn : List Token → ℕ → Type 0
-IsPlaceIn toks x = (i : ℕ) × (t : Token) × (slice_get toks i ≡ Some t) × (t.at.at ≡ x)
-
 item_same : (number : ℕ) (bytes : List ℕ) (after before : ℕ) → begun_before (tokens_of number bytes) after + 1 ≡ begun_by (tokens_of number bytes) after
     → item_between bytes (tokens_of number bytes) after before
     ≡ item_bytes bytes (tokens_of number bytes) (record { begin = begun_before (tokens_of number bytes) after + 1; end = begun_before (tokens_of number bytes) before })

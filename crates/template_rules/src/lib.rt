@@ -6,9 +6,9 @@
 //! stands against a new order, and where, say `specs/NameOffences.antt` of names, `specs/Marks.antt` of the parentheses
 //! and commas of lists, `specs/Insides.antt` of what happens inside them and of names in macros, and `specs/Offences.antt`
 //! of lists in macros, of scopes and of odd tokens. Each function takes the first of the offences before it to the first
-//! of them all, in the order of the crate `rename_rules`. `plan_template` gives the edits of the files that hold a list
-//! (`specs/FileLists.antt`), or the first refusal (`specs/Template.antt`). It reads and writes no files, and promises
-//! nothing of what the edited programs mean.
+//! of them all, in the order of the crate `offences`. `plan_template` gives the edits of the files that hold a list
+//! (`specs/FileLists.antt`), or the first refusal (`specs/Template.antt`). It reads and writes no files. What the edited
+//! programs mean is another crate's promise: `IsReorder` of `reordered`, which the plan of `template_plan` keeps.
 #![tactic(auto)]
 
 mod body_lists;
