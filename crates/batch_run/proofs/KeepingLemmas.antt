@@ -29,7 +29,7 @@ workspace_is source ws a e =
     ok_holds {E = UnitFault} (λ (b : AnalysisValue). b.workspace ≡ ws) (analysis_and ws all.0.units all.0.table) a all.2 refl
 
 one_analysis : (r : Result AnalysisValue UnitFault) (a b : AnalysisValue) → r ≡ Ok a → r ≡ Ok b → a ≡ b
-one_analysis r a b p q = let same : Ok a ≡ Ok b = sym p ∙ q in cc
+one_analysis r a b p q = ok_holds {E = UnitFault} (λ (c : AnalysisValue). a ≡ c) a b (sym p ∙ q) refl
 
 -- The edits of a line rename over each source with this analysis: once they are put, the line is kept.
 module _ (ws : WorkspaceValue) (q : LineValue) (a : AnalysisValue) (new : List Edit) (renames : RenamesOver a.workspace a q.path q.line q.column q.name q.strings new)

@@ -1,6 +1,7 @@
 // One line of a batch.
-ghost use Rattle.std.specs.Prelude.{Err, IfOk, Ok, Some};
+ghost use Rattle.std.specs.Prelude.{Err, IfOk, Ok, Some, IfSome};
 ghost use Rattle.rename_rules.specs.Renaming.{IsRenaming};
+ghost use Rattle.offences.specs.Refusals.{refusal_of};
 ghost use Rattle.renamed.specs.Rename.{RenamesOver};
 ghost use Rattle.batch_run.specs.Batch.{Plan};
 ghost use Rattle.batch_run.specs.Stepping.{IsAnswered, IsReady, Steps};
@@ -46,8 +47,7 @@ pub fn run_line(
         line.strings(),
     ) {
         Ok(new) => accept_line(alloc, ws, line, &new, state),
-        Err(PlanFault::Refused(refusal)) => refuse_line(ws, line, &refusal, state),
-        Err(PlanFault::Memory) => Err(Memory),
+        Err(fault) => refuse_line(ws, line, &fault, state),
     }
 }
 
@@ -90,8 +90,24 @@ fn accept_line(
     }
 }
 
-// A line that is refused.
+// A line that no edits answer.
 fn refuse_line(
+    ws: &Workspace,
+    line: &BatchLine,
+    fault: &PlanFault,
+    state: Batching,
+) -> Result<Batching, Memory>
+    requires { IfSome (refusal_of fault.now) (λ r. IsAnswered state line.now (Err r)) }
+    ensures { IfOk result (λ now. (plan : Plan) × Steps ws.now line.now plan state now) }
+{
+    match fault {
+        PlanFault::Refused(refusal) => tell_refusal(ws, line, refusal, state),
+        PlanFault::Memory => Err(Memory),
+    }
+}
+
+// A line that is refused.
+fn tell_refusal(
     ws: &Workspace,
     line: &BatchLine,
     refusal: &Refusal,

@@ -10,4 +10,4 @@ accept_line-requires-clause-renames c =
 
 pub refuse_line-requires : goal.refuse_line-requires
 refuse_line-requires c =
-    rw (← c.path.ensures, ← c.line.ensures, ← c.column.ensures, ← c.name.ensures, ← c.strings.ensures) c.in-Refused.ensures.answer
+    rw (← c.path.ensures, ← c.line.ensures, ← c.column.ensures, ← c.name.ensures, ← c.strings.ensures) c.in-Err.ensures.answer

@@ -1,7 +1,7 @@
 use Rattle.std.proofs.Common.{true, Err, refl}
 use Rattle.batch_run.specs.declared.stepping.Batching.{Batching}
 use Rattle.batch_run.proofs.StepLemmas.{refused_steps}
-use Rattle.batch_run.proofs.stepping.refuse_line.Goals as goal
+use Rattle.batch_run.proofs.stepping.tell_refusal.Goals as goal
 
 pub returns : goal.returns
 returns c =
