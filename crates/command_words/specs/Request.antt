@@ -2,12 +2,12 @@
 use Rattle.std.specs.Prelude.{ℕ, ◌+◌, ◌-◌, ◌*◌, Bool, true, false, ◌&&◌, ◌==◌, not, List, [], ◌∷◌, Option, None, Some, codes, fold, length, map, bytes_eq, nat_le, nat_lt, if◌then◌else◌}
 use Rattle.std.specs.Char.{is_ascii_digit}
 use Rattle.std.specs.List.{list_all, slice_split}
+use Rattle.std.specs.Option.{option_map}
 use Rattle.std.specs.Str.{byte}
 use Rattle.cs_base.specs.Paths.{normal_path_of}
 
--- A rename: the workspace file, the place, the new name, and whether strings that `#` makes may follow the renaming.
+-- A rename: the place, the new name, and whether strings that `#` makes may follow the renaming.
 pub record RenameValue : Type 0 where
-  pub ws : List ℕ
   pub path : List ℕ
   pub line : ℕ
   pub column : ℕ
@@ -15,75 +15,63 @@ pub record RenameValue : Type 0 where
   pub strings : Bool
 
 -- a rename of these parts
-abbrev pub rename : List ℕ → List ℕ → ℕ → ℕ → List ℕ → Bool → RenameValue
-rename ws path line column name strings = record { ws = ws; path = path; line = line; column = column; name = name; strings = strings }
+abbrev pub rename : List ℕ → ℕ → ℕ → List ℕ → Bool → RenameValue
+rename path line column name strings = record { path = path; line = line; column = column; name = name; strings = strings }
 
--- A report on the tokens of a unit: the workspace file, and the number of the unit.
-pub record TokensValue : Type 0 where
-  pub ws : List ℕ
-  pub unit : ℕ
-
--- such a report of these parts
-abbrev pub tokens_of_unit : List ℕ → ℕ → TokensValue
-tokens_of_unit ws unit = record { ws = ws; unit = unit }
-
--- A report on the class of a name: the workspace file, and the place.
-pub record ClassValue : Type 0 where
-  pub ws : List ℕ
-  pub path : List ℕ
-  pub line : ℕ
-  pub column : ℕ
-
--- such a report of these parts
-abbrev pub class_at : List ℕ → List ℕ → ℕ → ℕ → ClassValue
-class_at ws path line column = record { ws = ws; path = path; line = line; column = column }
-
--- What classes are found: the workspace file, and the query.
-pub record FindValue : Type 0 where
-  pub ws : List ℕ
-  pub query : List ℕ
-
--- such a report of these parts
-abbrev pub finding : List ℕ → List ℕ → FindValue
-finding ws query = record { ws = ws; query = query }
-
--- A batch: the workspace file, and the file of its lines.
-pub record BatchValue : Type 0 where
-  pub ws : List ℕ
-  pub file : List ℕ
-
--- such a batch of these parts
-abbrev pub batch_in : List ℕ → List ℕ → BatchValue
-batch_in ws file = record { ws = ws; file = file }
-
--- A new order of parameters: the workspace file, the place, and the order.
+-- A new order of parameters: the place, and the order.
 pub record TemplateValue : Type 0 where
-  pub ws : List ℕ
   pub path : List ℕ
   pub line : ℕ
   pub column : ℕ
   pub order : List ℕ
 
 -- such an order of these parts
-abbrev pub template_at : List ℕ → List ℕ → ℕ → ℕ → List ℕ → TemplateValue
-template_at ws path line column order = record { ws = ws; path = path; line = line; column = column; order = order }
+abbrev pub template_at : List ℕ → ℕ → ℕ → List ℕ → TemplateValue
+template_at path line column order = record { path = path; line = line; column = column; order = order }
 
--- What the program can be asked for. Reports on skipped groups, on unused names, on unneeded include lines and on calls
--- have a workspace file alone.
+-- A report on the class of a name: the place.
+pub record ClassValue : Type 0 where
+  pub path : List ℕ
+  pub line : ℕ
+  pub column : ℕ
+
+-- such a report of these parts
+abbrev pub class_at : List ℕ → ℕ → ℕ → ClassValue
+class_at path line column = record { path = path; line = line; column = column }
+
+-- ---- what the program can be asked for
+
+-- An edit over an analysis: each changes files.
+pub data EditValue : Type 0 where
+  rename_asked : RenameValue → EditValue
+  template_asked : TemplateValue → EditValue
+
+-- A report on an analysis: each writes a text. That of `find` has its query.
+pub data ReportValue : Type 0 where
+  class_asked : ClassValue → ReportValue
+  unused_asked : ReportValue
+  includes_asked : ReportValue
+  calls_asked : ReportValue
+  find_asked : List ℕ → ReportValue
+
+-- What is asked over a workspace: the tokens of the unit of a number, its skipped groups, a report, an edit, or the lines of
+-- a batch file.
+pub data AskValue : Type 0 where
+  tokens_asked : ℕ → AskValue
+  skipped_asked : AskValue
+  report_asked : ReportValue → AskValue
+  edit_asked : EditValue → AskValue
+  batch_asked : List ℕ → AskValue
+
+-- What words ask for: a text of the program's own, the size of a generated workspace of so many units, or an ask over the
+-- workspace of a workspace file.
 pub data RequestValue : Type 0 where
   help_asked : RequestValue
   version_asked : RequestValue
-  renaming_asked : RenameValue → RequestValue
-  template_asked : TemplateValue → RequestValue
-  tokens_asked : TokensValue → RequestValue
-  skipped_asked : List ℕ → RequestValue
-  class_asked : ClassValue → RequestValue
-  unused_asked : List ℕ → RequestValue
-  includes_asked : List ℕ → RequestValue
-  calls_asked : List ℕ → RequestValue
-  find_asked : FindValue → RequestValue
-  batch_asked : BatchValue → RequestValue
   generated_asked : ℕ → RequestValue
+  asked_over : List ℕ → AskValue → RequestValue
+
+-- ---- numbers and orders in words
 
 -- the number that decimal digits spell
 abbrev pub number_of : List ℕ → ℕ
@@ -111,26 +99,65 @@ number_or_zero word = if is_number word then number_of word else 0
 abbrev pub order_of : List ℕ → List ℕ
 order_of word = map number_or_zero (slice_split (λ b. b == byte ",") word)
 
+-- ---- commands, by the words behind their name
+
 -- a rename's words: its two numbers are numbers, and the path is taken in its normal form
-abbrev pub rename_of : List ℕ → List ℕ → List ℕ → List ℕ → List ℕ → Bool → Option RequestValue
-rename_of ws path line column name strings =
+abbrev pub rename_of : List ℕ → List ℕ → List ℕ → List ℕ → Bool → Option AskValue
+rename_of path line column name strings =
     if is_number line && is_number column
-    then Some (renaming_asked (rename ws (normal_path_of path) (number_of line) (number_of column) name strings))
+    then Some (edit_asked (rename_asked (rename (normal_path_of path) (number_of line) (number_of column) name strings)))
     else None
 
 -- the words of a new order of parameters: as those of a rename, and an order
-abbrev pub template_of : List ℕ → List ℕ → List ℕ → List ℕ → List ℕ → Option RequestValue
-template_of ws path line column order =
+abbrev pub template_of : List ℕ → List ℕ → List ℕ → List ℕ → Option AskValue
+template_of path line column order =
     if is_number line && is_number column
-    then Some (template_asked (template_at ws (normal_path_of path) (number_of line) (number_of column) (order_of order)))
+    then Some (edit_asked (template_asked (template_at (normal_path_of path) (number_of line) (number_of column) (order_of order))))
     else None
 
 -- the words of a report on a class: as those of a rename
-abbrev pub class_report_of : List ℕ → List ℕ → List ℕ → List ℕ → Option RequestValue
-class_report_of ws path line column =
+abbrev pub class_report_of : List ℕ → List ℕ → List ℕ → Option AskValue
+class_report_of path line column =
     if is_number line && is_number column
-    then Some (class_asked (class_at ws (normal_path_of path) (number_of line) (number_of column)))
+    then Some (report_asked (class_asked (class_at (normal_path_of path) (number_of line) (number_of column))))
     else None
+
+-- a command alone
+abbrev pub command_alone : List ℕ → Option AskValue
+command_alone command =
+    if bytes_eq command (codes "skipped") then Some skipped_asked
+    else (if bytes_eq command (codes "unused") then Some (report_asked unused_asked)
+    else (if bytes_eq command (codes "includes") then Some (report_asked includes_asked)
+    else (if bytes_eq command (codes "calls") then Some (report_asked calls_asked) else None)))
+
+-- a command, and a query or a batch file, which is any word
+abbrev pub command_with_word : List ℕ → List ℕ → Option AskValue
+command_with_word command word =
+    if bytes_eq command (codes "find") then Some (report_asked (find_asked word))
+    else (if bytes_eq command (codes "batch") then Some (batch_asked word) else None)
+
+-- a command, and the number of a unit or another word
+abbrev pub command_with_unit : List ℕ → List ℕ → Option AskValue
+command_with_unit command unit =
+    if bytes_eq command (codes "tokens") && is_number unit then Some (tokens_asked (number_of unit)) else command_with_word command unit
+
+-- a command and a place
+abbrev pub command_at_place : List ℕ → List ℕ → List ℕ → List ℕ → Option AskValue
+command_at_place command path line column =
+    if bytes_eq command (codes "class") then class_report_of path line column else None
+
+-- a command, a place, and a name or an order
+abbrev pub command_with_name : List ℕ → List ℕ → List ℕ → List ℕ → List ℕ → Option AskValue
+command_with_name command path line column name =
+    if bytes_eq command (codes "rename") then rename_of path line column name false
+    else (if bytes_eq command (codes "template") then template_of path line column name else None)
+
+-- the words of a rename, and the word `strings`
+abbrev pub command_with_strings : List ℕ → List ℕ → List ℕ → List ℕ → List ℕ → List ℕ → Option AskValue
+command_with_strings command path line column name word =
+    if bytes_eq command (codes "rename") && bytes_eq word (codes "strings") then rename_of path line column name true else None
+
+-- ---- all words
 
 -- a word that stands alone
 abbrev pub alone_of : List ℕ → Option RequestValue
@@ -142,56 +169,24 @@ alone_of word =
 abbrev pub is_size : List ℕ → Bool
 is_size word = is_number word && nat_le (number_of word) 1024
 
--- the words of a generated workspace
-abbrev pub generated_of : List ℕ → List ℕ → Option RequestValue
-generated_of word size =
-    if bytes_eq word (codes "generate") && is_size size then Some (generated_asked (number_of size)) else None
+-- what is asked over the workspace of this file, or none
+abbrev pub over_file : List ℕ → Option AskValue → Option RequestValue
+over_file ws ask = option_map (asked_over ws) ask
 
--- two words: the workspace file and a command, or `generate` and a number
-abbrev pub workspace_command_of : List ℕ → List ℕ → Option RequestValue
-workspace_command_of ws command =
-    if bytes_eq command (codes "skipped") then Some (skipped_asked ws)
-    else (if bytes_eq command (codes "unused") then Some (unused_asked ws)
-    else (if bytes_eq command (codes "includes") then Some (includes_asked ws)
-    else (if bytes_eq command (codes "calls") then Some (calls_asked ws) else generated_of ws command)))
-
--- the workspace file, a command, and a query, which is any word
-abbrev pub query_command_of : List ℕ → List ℕ → List ℕ → Option RequestValue
-query_command_of ws command query =
-    if bytes_eq command (codes "find") then Some (find_asked (finding ws query))
-    else (if bytes_eq command (codes "batch") then Some (batch_asked (batch_in ws query)) else None)
-
--- three words: the workspace file, a command, and the number of a unit, a query, or a batch file
-abbrev pub unit_command_of : List ℕ → List ℕ → List ℕ → Option RequestValue
-unit_command_of ws command unit =
-    if bytes_eq command (codes "tokens") && is_number unit
-    then Some (tokens_asked (tokens_of_unit ws (number_of unit)))
-    else query_command_of ws command unit
-
--- five words: the workspace file, a command, and a place
-abbrev pub place_command_of : List ℕ → List ℕ → List ℕ → List ℕ → List ℕ → Option RequestValue
-place_command_of ws command path line column =
-    if bytes_eq command (codes "class") then class_report_of ws path line column else None
-
--- six words: the workspace file and a command
-abbrev pub command_of : List ℕ → List ℕ → List ℕ → List ℕ → List ℕ → List ℕ → Option RequestValue
-command_of ws command path line column name =
-    if bytes_eq command (codes "rename") then rename_of ws path line column name false
-    else (if bytes_eq command (codes "template") then template_of ws path line column name else None)
-
--- seven words: those of a rename, and the word `strings`
-abbrev pub strings_command_of : List ℕ → List ℕ → List ℕ → List ℕ → List ℕ → List ℕ → List ℕ → Option RequestValue
-strings_command_of ws command path line column name word =
-    if bytes_eq command (codes "rename") && bytes_eq word (codes "strings") then rename_of ws path line column name true else None
+-- two words: `generate` and a number, or the workspace file and a command
+abbrev pub two_words_of : List ℕ → List ℕ → Option RequestValue
+two_words_of ws command =
+    if bytes_eq ws (codes "generate") && is_size command
+    then Some (generated_asked (number_of command))
+    else over_file ws (command_alone command)
 
 -- the request of these words, or none where they are of no form
 abbrev pub asked : List (List ℕ) → Option RequestValue
 asked (word ∷ []) = alone_of word
-asked (ws ∷ command ∷ []) = workspace_command_of ws command
-asked (ws ∷ command ∷ unit ∷ []) = unit_command_of ws command unit
-asked (ws ∷ command ∷ path ∷ line ∷ column ∷ []) = place_command_of ws command path line column
-asked (ws ∷ command ∷ path ∷ line ∷ column ∷ name ∷ []) =
-    command_of ws command path line column name
+asked (ws ∷ command ∷ []) = two_words_of ws command
+asked (ws ∷ command ∷ word ∷ []) = over_file ws (command_with_unit command word)
+asked (ws ∷ command ∷ path ∷ line ∷ column ∷ []) = over_file ws (command_at_place command path line column)
+asked (ws ∷ command ∷ path ∷ line ∷ column ∷ name ∷ []) = over_file ws (command_with_name command path line column name)
 asked (ws ∷ command ∷ path ∷ line ∷ column ∷ name ∷ word ∷ []) =
-    strings_command_of ws command path line column name word
+    over_file ws (command_with_strings command path line column name word)
 asked words = None

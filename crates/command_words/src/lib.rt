@@ -6,20 +6,17 @@
 //! write that fails; `edited_text` and `size_text` make lines of the output. `specs/Message.antt` has every line,
 //! `specs/Telling.antt` what telling does to a sink. Here nothing is known of what a command does: that is the crate
 //! `cscout_run`. Only `edited_text` and `size_text` want memory. A command's words, its help and its lines are added
-//! here. Read `specs/Request.antt`, then `requests.rt`.
+//! here; the words of each are a type of the module `requests`. Read `specs/Request.antt`, then `requests.rt`.
 #![tactic(auto)]
 
 mod help_texts;
 mod lines;
 mod messages;
 mod orders;
-mod requests;
+pub mod requests;
 
 pub use help_texts::{help, version};
 pub use lines::{edited_text, size_text};
 pub use messages::{tell, tell_batch, tell_line, tell_offence, tell_query, tell_unit};
 pub use orders::order_of;
-pub use requests::{
-    BatchFile, Finding, NamedClass, Rename, Reordering, Request, UnitTokens, asked, is_number,
-    number, workspace_file,
-};
+pub use requests::{Ask, Edit, Report, Request, asked, is_number, number, workspace_file};

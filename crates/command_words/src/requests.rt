@@ -1,13 +1,12 @@
 // What the words after the program's name ask for.
 ghost use Rattle.std.specs.Prelude.{◌≡◌, ◌≤◌, length, map, string_bytes, IsTrue};
 ghost use Rattle.std.specs.Option.{option_map};
-ghost use Rattle.command_words.specs.Request.{asked, alone_of, workspace_command_of, unit_command_of, query_command_of, place_command_of, class_report_of, command_of, strings_command_of, rename_of, template_of, generated_of, is_number, is_size, are_digits, begins_with_zero, number_of};
-ghost use Rattle.command_words.specs.Asking.{request_value, workspace_file};
+ghost use Rattle.command_words.specs.Request.{asked, alone_of, two_words_of, over_file, command_alone, command_with_unit, command_with_word, command_at_place, class_report_of, command_with_name, command_with_strings, rename_of, template_of, is_number, is_size, are_digits, begins_with_zero, number_of};
+ghost use Rattle.command_words.specs.Asking.{ask_value, request_value, workspace_file};
 
 /// A rename in words: the path is as written. `strings` says that strings which `#` makes may follow the renaming.
 #[derive(Drop)]
 pub struct Rename<'a> {
-    pub ws: &'a str,
     pub path: &'a str,
     pub line: u32,
     pub column: u32,
@@ -18,60 +17,54 @@ pub struct Rename<'a> {
 /// A new order of parameters in words: the path and the order are as written.
 #[derive(Drop)]
 pub struct Reordering<'a> {
-    pub ws: &'a str,
     pub path: &'a str,
     pub line: u32,
     pub column: u32,
     pub order: &'a str,
 }
 
-/// A report on the tokens of a unit, in words.
-#[derive(Drop)]
-pub struct UnitTokens<'a> {
-    pub ws: &'a str,
-    pub unit: u32,
-}
-
 /// A report on the class of a name, in words: the path is as written.
 #[derive(Drop)]
 pub struct NamedClass<'a> {
-    pub ws: &'a str,
     pub path: &'a str,
     pub line: u32,
     pub column: u32,
 }
 
-/// A query over classes, in words.
+/// An edit over an analysis.
 #[derive(Drop)]
-pub struct Finding<'a> {
-    pub ws: &'a str,
-    pub query: &'a str,
+pub enum Edit<'a> {
+    Renaming(Rename<'a>),
+    Template(Reordering<'a>),
 }
 
-/// A batch, in words.
+/// A report on an analysis. `Find` has its query.
 #[derive(Drop)]
-pub struct BatchFile<'a> {
-    pub ws: &'a str,
-    pub file: &'a str,
+pub enum Report<'a> {
+    Class(NamedClass<'a>),
+    Unused,
+    Includes,
+    Calls,
+    Find(&'a str),
 }
 
-/// What the program is asked for. `Skipped`, `Unused`, `Includes` and `Calls` have the workspace file, `Generated` the
-/// number of units.
+/// What is asked over a workspace. `Tokens` has the number of a unit, `Batch` its file.
+#[derive(Drop)]
+pub enum Ask<'a> {
+    Tokens(u32),
+    Skipped,
+    Report(Report<'a>),
+    Edit(Edit<'a>),
+    Batch(&'a str),
+}
+
+/// What the program is asked for. `Generated` has the number of units, `Over` the workspace file.
 #[derive(Drop)]
 pub enum Request<'a> {
     Help,
     Version,
-    Renaming(Rename<'a>),
-    Template(Reordering<'a>),
-    Tokens(UnitTokens<'a>),
-    Skipped(&'a str),
-    Class(NamedClass<'a>),
-    Unused(&'a str),
-    Includes(&'a str),
-    Calls(&'a str),
-    Find(Finding<'a>),
-    Batch(BatchFile<'a>),
     Generated(u32),
+    Over(&'a str, Ask<'a>),
 }
 
 /// The request of these words, or none where they are of no form. Takes no memory.
@@ -82,42 +75,43 @@ pub fn asked(words: &[String]) -> Option<Request<'_>>
         return asked_alone(words[0].as_str());
     }
     if words.len() == 2 {
-        return asked_of_workspace(words[0].as_str(), words[1].as_str());
+        return asked_by_two(words[0].as_str(), words[1].as_str());
     }
     if words.len() == 3 {
-        return asked_of_unit(words[0].as_str(), words[1].as_str(), words[2].as_str());
+        let ask = asked_with_unit(words[1].as_str(), words[2].as_str());
+        return over_file(words[0].as_str(), ask);
     }
     if words.len() == 5 {
-        return asked_of_place(
-            words[0].as_str(),
+        let ask = asked_at_place(
             words[1].as_str(),
             words[2].as_str(),
             words[3].as_str(),
             words[4].as_str(),
         );
+        return over_file(words[0].as_str(), ask);
     }
     if words.len() == 6 {
-        return asked_command(
-            words[0].as_str(),
+        let ask = asked_with_name(
             words[1].as_str(),
             words[2].as_str(),
             words[3].as_str(),
             words[4].as_str(),
             words[5].as_str(),
         );
+        return over_file(words[0].as_str(), ask);
     }
     if words.len() != 7 {
         return None;
     }
-    asked_with_strings(
-        words[0].as_str(),
+    let ask = asked_with_strings(
         words[1].as_str(),
         words[2].as_str(),
         words[3].as_str(),
         words[4].as_str(),
         words[5].as_str(),
         words[6].as_str(),
-    )
+    );
+    over_file(words[0].as_str(), ask)
 }
 
 fn asked_alone<'a>(word: &str) -> Option<Request<'a>>
@@ -132,170 +126,157 @@ fn asked_alone<'a>(word: &str) -> Option<Request<'a>>
     }
 }
 
-fn asked_of_workspace<'a>(ws: &'a str, command: &str) -> Option<Request<'a>>
-    ensures { option_map request_value result ≡ workspace_command_of ws.now command.now }
+fn asked_by_two<'a>(ws: &'a str, command: &str) -> Option<Request<'a>>
+    ensures { option_map request_value result ≡ two_words_of ws.now command.now }
+{
+    if ws == "generate" && is_size(command.as_bytes()) {
+        Some(Request::Generated(number(command.as_bytes())))
+    } else {
+        over_file(ws, asked_by_command(command))
+    }
+}
+
+// What is asked over the workspace of this file, or none.
+fn over_file<'a>(ws: &'a str, ask: Option<Ask<'a>>) -> Option<Request<'a>>
+    ensures { option_map request_value result ≡ over_file ws.now (option_map ask_value ask.entry) }
+{
+    match ask {
+        Some(ask) => Some(Request::Over(ws, ask)),
+        None => None,
+    }
+}
+
+fn asked_by_command<'a>(command: &str) -> Option<Ask<'a>>
+    ensures { option_map ask_value result ≡ command_alone command.now }
 {
     if command == "skipped" {
-        Some(Request::Skipped(ws))
+        Some(Ask::Skipped)
     } else if command == "unused" {
-        Some(Request::Unused(ws))
+        Some(Ask::Report(Report::Unused))
     } else if command == "includes" {
-        Some(Request::Includes(ws))
+        Some(Ask::Report(Report::Includes))
     } else if command == "calls" {
-        Some(Request::Calls(ws))
-    } else {
-        asked_generated(ws, command)
-    }
-}
-
-fn asked_generated<'a>(word: &str, size: &str) -> Option<Request<'a>>
-    ensures { option_map request_value result ≡ generated_of word.now size.now }
-{
-    if word == "generate" && is_size(size.as_bytes()) {
-        Some(Request::Generated(number(size.as_bytes())))
+        Some(Ask::Report(Report::Calls))
     } else {
         None
     }
 }
 
-fn asked_of_unit<'a>(ws: &'a str, command: &str, unit: &'a str) -> Option<Request<'a>>
-    ensures { option_map request_value result ≡ unit_command_of ws.now command.now unit.now }
+fn asked_with_unit<'a>(command: &str, unit: &'a str) -> Option<Ask<'a>>
+    ensures { option_map ask_value result ≡ command_with_unit command.now unit.now }
 {
     if command == "tokens" && is_number(unit.as_bytes()) {
-        Some(Request::Tokens(UnitTokens {
-            ws,
-            unit: number(unit.as_bytes()),
-        }))
+        Some(Ask::Tokens(number(unit.as_bytes())))
     } else {
-        asked_query(ws, command, unit)
+        asked_with_word(command, unit)
     }
 }
 
-fn asked_query<'a>(ws: &'a str, command: &str, query: &'a str) -> Option<Request<'a>>
-    ensures { option_map request_value result ≡ query_command_of ws.now command.now query.now }
+fn asked_with_word<'a>(command: &str, word: &'a str) -> Option<Ask<'a>>
+    ensures { option_map ask_value result ≡ command_with_word command.now word.now }
 {
     if command == "find" {
-        Some(Request::Find(Finding { ws, query }))
+        Some(Ask::Report(Report::Find(word)))
     } else if command == "batch" {
-        Some(Request::Batch(BatchFile { ws, file: query }))
+        Some(Ask::Batch(word))
     } else {
         None
     }
 }
 
-fn asked_of_place<'a>(
-    ws: &'a str,
-    command: &str,
-    path: &'a str,
-    line: &str,
-    column: &str,
-) -> Option<Request<'a>>
-    ensures { option_map request_value result ≡ place_command_of ws.now command.now path.now line.now column.now }
+fn asked_at_place<'a>(command: &str, path: &'a str, line: &str, column: &str) -> Option<Ask<'a>>
+    ensures { option_map ask_value result ≡ command_at_place command.now path.now line.now column.now }
 {
     if command == "class" {
-        asked_class(ws, path, line, column)
+        asked_class(path, line, column)
     } else {
         None
     }
 }
 
-fn asked_class<'a>(ws: &'a str, path: &'a str, line: &str, column: &str) -> Option<Request<'a>>
-    ensures { option_map request_value result ≡ class_report_of ws.now path.now line.now column.now }
+fn asked_class<'a>(path: &'a str, line: &str, column: &str) -> Option<Ask<'a>>
+    ensures { option_map ask_value result ≡ class_report_of path.now line.now column.now }
 {
     if is_number(line.as_bytes()) && is_number(column.as_bytes()) {
-        Some(Request::Class(NamedClass {
-            ws,
+        Some(Ask::Report(Report::Class(NamedClass {
             path,
             line: number(line.as_bytes()),
             column: number(column.as_bytes()),
-        }))
+        })))
     } else {
         None
     }
 }
 
-fn asked_command<'a>(
-    ws: &'a str,
+fn asked_with_name<'a>(
     command: &str,
     path: &'a str,
     line: &str,
     column: &str,
     name: &'a str,
-) -> Option<Request<'a>>
-    ensures { option_map request_value result
-        ≡ command_of ws.now command.now path.now line.now column.now name.now }
+) -> Option<Ask<'a>>
+    ensures { option_map ask_value result
+        ≡ command_with_name command.now path.now line.now column.now name.now }
 {
     if command == "rename" {
-        asked_rename(ws, path, line, column, name, false)
+        asked_rename(path, line, column, name, false)
     } else if command == "template" {
-        asked_template(ws, path, line, column, name)
+        asked_template(path, line, column, name)
     } else {
         None
     }
 }
 
 fn asked_with_strings<'a>(
-    ws: &'a str,
     command: &str,
     path: &'a str,
     line: &str,
     column: &str,
     name: &'a str,
     word: &str,
-) -> Option<Request<'a>>
-    ensures { option_map request_value result
-        ≡ strings_command_of ws.now command.now path.now line.now column.now name.now word.now }
+) -> Option<Ask<'a>>
+    ensures { option_map ask_value result
+        ≡ command_with_strings command.now path.now line.now column.now name.now word.now }
 {
     if command == "rename" && word == "strings" {
-        asked_rename(ws, path, line, column, name, true)
+        asked_rename(path, line, column, name, true)
     } else {
         None
     }
 }
 
-fn asked_template<'a>(
-    ws: &'a str,
-    path: &'a str,
-    line: &str,
-    column: &str,
-    order: &'a str,
-) -> Option<Request<'a>>
-    ensures { option_map request_value result
-        ≡ template_of ws.now path.now line.now column.now order.now }
+fn asked_template<'a>(path: &'a str, line: &str, column: &str, order: &'a str) -> Option<Ask<'a>>
+    ensures { option_map ask_value result ≡ template_of path.now line.now column.now order.now }
 {
     if is_number(line.as_bytes()) && is_number(column.as_bytes()) {
-        Some(Request::Template(Reordering {
-            ws,
+        Some(Ask::Edit(Edit::Template(Reordering {
             path,
             line: number(line.as_bytes()),
             column: number(column.as_bytes()),
             order,
-        }))
+        })))
     } else {
         None
     }
 }
 
 fn asked_rename<'a>(
-    ws: &'a str,
     path: &'a str,
     line: &str,
     column: &str,
     name: &'a str,
     strings: bool,
-) -> Option<Request<'a>>
-    ensures { option_map request_value result
-        ≡ rename_of ws.now path.now line.now column.now name.now strings }
+) -> Option<Ask<'a>>
+    ensures { option_map ask_value result ≡ rename_of path.now line.now column.now name.now strings }
 {
     if is_number(line.as_bytes()) && is_number(column.as_bytes()) {
-        Some(Request::Renaming(Rename {
-            ws,
+        Some(Ask::Edit(Edit::Renaming(Rename {
             path,
             line: number(line.as_bytes()),
             column: number(column.as_bytes()),
             name,
             strings,
-        }))
+        })))
     } else {
         None
     }
@@ -352,17 +333,8 @@ pub fn workspace_file<'a>(request: &Request<'a>) -> &'a str
     ensures { result.now ≡ workspace_file request.now }
 {
     match request {
-        Request::Renaming(rename) => rename.ws,
-        Request::Template(template) => template.ws,
-        Request::Tokens(tokens) => tokens.ws,
-        Request::Skipped(ws) => ws,
-        Request::Class(class) => class.ws,
-        Request::Unused(ws) => ws,
-        Request::Includes(ws) => ws,
-        Request::Calls(ws) => ws,
-        Request::Find(query) => query.ws,
-        Request::Batch(batch) => batch.ws,
         Request::Generated(_) => "w.cs",
+        Request::Over(ws, _) => ws,
         _ => "",
     }
 }

@@ -8,11 +8,13 @@ use Rattle.cscout_run.specs.declared.status.Status.{Status}
 use Rattle.cscout_run.specs.declared.status.Status.TheVariants.{Done, Refused, Usage, WriteFault}
 use Rattle.cscout_run.specs.declared.stops.Stop.{Stop}
 use Rattle.command_words.specs.Request.{asked}
-use Rattle.cscout_run.specs.Answer.{Answer, IsAnswer, answer_of, ready_status, stopped}
+use Rattle.cscout_run.specs.Answer.{IsAnswer}
+use Rattle.cscout_run.specs.Shapes.{Answer, answer_of, ready_status, stopped}
 use Rattle.command_words.specs.Message.{usage_line, unwritten_line, no_output_line}
 use Rattle.cscout_run.specs.Outcome.{World, told_in, HasCauses, IsComplete, ShowsAnswer, Tells, FailedPut, FailedWrite, IsDone, Unmoved, Ends}
 use Rattle.cscout_run.specs.Stopping.{Stops, stop_reads, status_of, line_of}
-use Rattle.cscout_run.proofs.RunLemmas.{if_told, if_told-map, answer-usage, answer-alike, quiet-causes, put-causes, stop-causes, stop-shows, stop-status, complete, write-complete, ready_is, goes_on, written_none, path-last}
+use Rattle.cscout_run.proofs.AnswerLemmas.{answer-alike, answer-usage}
+use Rattle.cscout_run.proofs.RunLemmas.{if_told, if_told-map, quiet-causes, put-causes, stop-causes, stop-shows, stop-status, complete, write-complete, ready_is, goes_on, written_none, path-last}
 
 -- the run ends at once
 pub usage-ends : (words : List (List ℕ)) (before now : World) → asked words ≡ None → Unmoved before now → now.reads ≡ before.reads
@@ -31,10 +33,10 @@ usage-ends words before now none unmoved reads puts outs line =
 -- the run ends before the first put
 pub stop-ends : (words : List (List ℕ)) (ws : List ℕ) (end : Stop) (before now : World)
     → IfSome before.held (λ fs. Stops ws (IsAnswer words fs) end) → Unmoved before now
-    → TellsReads (told_in before) (told_in now) (stop_reads ws end) → now.puts ≡ before.puts → now.outs ≡ before.outs
+    → TellsReads (told_in before) (told_in now) (stop_reads end) → now.puts ≡ before.puts → now.outs ≡ before.outs
     → Tells (line_of ws end) before now → Ends (IsAnswer words) before now (status_of end)
 stop-ends words ws end before now stops unmoved reads puts outs line =
-    let causes = stop-causes ws end before now reads puts outs in
+    let causes = stop-causes end before now reads puts outs in
     record {
       shows = if_told-map before.held _ _ stops (λ fs p. stop-shows ws (IsAnswer words fs) end before now p unmoved line reads);
       causes = causes;

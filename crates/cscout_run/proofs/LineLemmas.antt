@@ -9,7 +9,8 @@ use Rattle.ws_file.specs.Workspace.{WorkspaceValue, IsWorkspace}
 use Rattle.analysis.specs.Below.source_files.Files.{source_of}
 use Rattle.analysis.specs.Analysis.{AnalysisValue, analysis_of}
 use Rattle.analysis.specs.Texts.{UnitFault}
-use Rattle.cscout_run.specs.Answer.{Answer, IsBatchAnswer, IsLinesAnswer, lines_answer}
+use Rattle.cscout_run.specs.Answer.{IsAnalysed, IsBatchAnswer, IsLinesAnswer, lines_answer}
+use Rattle.cscout_run.specs.Shapes.{Answer}
 use Rattle.rename_plan.proofs.OnceLemmas.{renamings_once}
 
 pub same-answer : (x a b : Answer) → x ≡ a → x ≡ b → a ≡ b
@@ -43,7 +44,7 @@ module _ (ws : WorkspaceValue) (is_ws : IsWorkspace ws) where
   -- ---- their answers
 
   run-alike : (files : FileMap) (lines : List LineValue) (analysed : Result AnalysisValue UnitFault) (a b : Answer)
-      → IsLinesAnswer files ws lines analysed a → IsLinesAnswer files ws lines analysed b → a ≡ b
+      → IsAnalysed (IsLinesAnswer files ws lines) analysed a → IsAnalysed (IsLinesAnswer files ws lines) analysed b → a ≡ b
   run-alike files lines (Ok value) a b p p' =
       same-answer (lines_answer p.0) a b p.2 (ap lines_answer (lines_once files [] lines p.0 p'.0 p.1 p'.1) ∙ p'.2)
   run-alike files lines (Err fault) a b p p' = same-answer _ a b p p'

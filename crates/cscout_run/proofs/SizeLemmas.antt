@@ -11,7 +11,8 @@ use Rattle.analysis.specs.Counts.{tokens_in}
 use Rattle.cscout_run.specs.Answer.{places_in}
 use Rattle.cscout_run.specs.declared.stops.Stop.{Stop}
 use Rattle.cscout_run.specs.declared.stops.Stop.TheVariants as stop
-use Rattle.cscout_run.specs.Steps.{IsPlanStop, IsQuiet}
+use Rattle.cscout_run.specs.Shapes.{Answer}
+use Rattle.cscout_run.specs.Steps.{IsQuiet, Tells}
 
 tokens_in-suc : (units : List UnitAnalysis) (k : ℕ) (t : UnitTextValue) → option_map (λ u. u.text) (slice_get units k) ≡ Some t
     → tokens_in (drop k units) ≡ length t.toks + tokens_in (drop (suc k) units)
@@ -46,25 +47,10 @@ pub places_in-drop : (edits : List Edit) (k count : ℕ) → k < length edits �
     → places_in (drop k edits) ≡ count + places_in (drop (k + 1) edits)
 places_in-drop edits k count below n = rw add-one (places_in-suc edits k count below n)
 
--- a plan's early end tells of no read
-pub plan-quiet : (end : Stop) → IsPlanStop end → IsQuiet end
-plan-quiet stop.BadName p = tt
-plan-quiet stop.NoName p = tt
-plan-quiet stop.NotAFunction p = tt
-plan-quiet stop.BadOrder p = tt
-plan-quiet (stop.BadQuery at) p = tt
-plan-quiet (stop.DeepQuery at) p = tt
-plan-quiet (stop.Offence place cause) p = tt
-plan-quiet stop.Memory p = tt
-plan-quiet stop.NoWorkspace p = absurd p
-plan-quiet (stop.BadLine line) p = absurd p
-plan-quiet (stop.TooManyUnits line) p = absurd p
-plan-quiet stop.UnreadWorkspace p = absurd p
-plan-quiet (stop.UnitFault unit place cause) p = absurd p
-plan-quiet (stop.UnreadFile path) p = absurd p
-plan-quiet (stop.BadBatch line) p = absurd p
-plan-quiet stop.NoUnit p = absurd p
-
-pub plans-quiet : {X : Type 0} (r : Result X Stop) → IfErr r IsPlanStop → IfErr r IsQuiet
-plans-quiet (Ok x) p = tt
-plans-quiet (Err end) p = plan-quiet end p
+-- what is told over an analysis ends without a read
+pub tells-quiet : {X : Type 0} (answer : X → Answer) (IsOne : Answer → Type 0) (result : Result X Stop) → Tells answer IsOne result → IfErr result IsQuiet
+tells-quiet answer IsOne (Ok x) p = tt
+tells-quiet answer IsOne (Err (stop.Refused why)) p = tt
+tells-quiet answer IsOne (Err stop.Memory) p = tt
+tells-quiet answer IsOne (Err (stop.Workspace fault)) p = tt
+tells-quiet answer IsOne (Err (stop.Unread path)) p = absurd p

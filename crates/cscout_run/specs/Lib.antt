@@ -1,4 +1,6 @@
 -- What the public contracts rest on.
+pub mod Shapes
+pub mod Asks
 pub mod Answer
 pub mod Outcome
 pub mod Promise

@@ -6,7 +6,7 @@ use Rattle.cs_base.specs.Edit.{Edit, with_edits}
 use Rattle.cs_base.specs.Outside.{FileMap, FilesTold, files_told, Rose, IsFront}
 use Rattle.cscout_run.specs.declared.status.Status.{Status}
 use Rattle.cscout_run.specs.declared.status.Status.TheVariants.{Done, Refused, Usage, Workspace, ReadFault, WriteFault, Memory}
-use Rattle.cscout_run.specs.Answer.{Answer}
+use Rattle.cscout_run.specs.Shapes.{Answer}
 use Rattle.command_words.specs.Telling.{Told}
 use Rattle.command_words.specs.Message.{unread_line, unwritten_line, no_output_line, memory_line}
 

@@ -6,34 +6,71 @@ use Rattle.ws_file.specs.Workspace.{WorkspaceValue}
 use Rattle.ws_file.specs.Reading.{WsFault}
 use Rattle.analysis.specs.Below.source_files.Files.{source_of}
 use Rattle.analysis.specs.Analysis.{AnalysisValue, analysis_of}
+use Rattle.analysis.specs.Texts.{UnitFault}
 use Rattle.analysis.specs.declared.analyse_fault.AnalyseFault.{AnalyseFault}
 use Rattle.analysis.specs.declared.analyse_fault.AnalyseFault.TheVariants as fault
-use Rattle.cscout_run.specs.declared.status.Status.TheVariants as status
-use Rattle.cscout_run.specs.declared.stops.Stop.{Stop}
-use Rattle.cscout_run.specs.declared.stops.Stop.TheVariants.{UnreadWorkspace, UnitFault, UnreadFile, BadName, NoName, NotAFunction, BadOrder, BadQuery, DeepQuery, Offence, Memory}
-use Rattle.cscout_run.specs.declared.preparing.Ready.{Ready}
-use Rattle.batch_run.specs.Line.{LineValue}
-use Rattle.batch_run.specs.Batch.{Plan, IsBatch, after_each}
-use Rattle.offences.specs.declared.refusals.PlanFault.{PlanFault}
-use Rattle.offences.specs.declared.refusals.PlanFault.TheVariants as plan
-use Rattle.offences.specs.declared.refusals.Refusal.{Refusal}
-use Rattle.offences.specs.declared.refusals.Refusal.TheVariants as refusal
-use Rattle.batch_run.specs.Keeping.{KeepsLines}
 use Rattle.find_names.specs.declared.refusal.FindRefusal.{FindRefusal}
 use Rattle.find_names.specs.declared.refusal.FindRefusal.TheVariants as found
-use Rattle.command_words.specs.Request.{RequestValue, RenameValue, TemplateValue, BatchValue, renaming_asked, template_asked, batch_asked}
-use Rattle.renamed.specs.Rename.{RenamesOver}
-use Rattle.reordered.specs.Reorder.{ReordersOver}
-use Rattle.cscout_run.specs.Answer.{Answer, answer_of, batch_at, ready_status, stopped, workspace_at, ws_fault_line}
+use Rattle.query_report.specs.Queries.{IsReport}
+use Rattle.query_report.specs.declared.queries.Query.{Query}
+use Rattle.batch_run.specs.Line.{LineValue}
+use Rattle.batch_run.specs.Batch.{Plan, IsBatch, after_each}
+use Rattle.batch_run.specs.Keeping.{KeepsLines}
+use Rattle.command_words.specs.Request.{AskValue, edit_asked, batch_asked, EditValue, RequestValue, asked_over}
 use Rattle.command_words.specs.Message.{absent_line, batch_line}
-use Rattle.cscout_run.specs.Stopping.{Stops, stop_reads}
+use Rattle.cscout_run.specs.declared.preparing.Ready.{Ready}
+use Rattle.cscout_run.specs.declared.status.Status.TheVariants as status
+use Rattle.cscout_run.specs.declared.stops.Fault.TheVariants.{Unit as NotAccepted}
+use Rattle.cscout_run.specs.declared.stops.Stop.{Stop}
+use Rattle.cscout_run.specs.declared.stops.Stop.TheVariants.{Workspace, Unread, Refused, Memory}
+use Rattle.cscout_run.specs.declared.stops.Why.TheVariants.{BadQuery, DeepQuery}
+use Rattle.cscout_run.specs.Answer.{batch_at, text_fault_line, workspace_at, ws_fault_line}
+use Rattle.cscout_run.specs.Asks.{KeepsOver, told_answer}
+use Rattle.cscout_run.specs.Shapes.{Answer, answer_of, ready_status, stopped}
+use Rattle.cscout_run.specs.Stopping.{Stops, stop_reads, why_line}
 
--- what stands ready to be put and written is an answer, or the message of the early end is
+-- ---- what stands ready
+
+-- the answer of what stands ready to be put and written
+abbrev pub ready_answer : Ready → Answer
+ready_answer ready = answer_of (ready_status ready.refused) ready.text.items [] ready.edits
+
+-- what stands ready is an answer, or the message of the early end is; `ws` is the workspace file
 abbrev pub Prepares : List ℕ → (Answer → Type 0) → Result Ready Stop → Type 0
-Prepares ws IsAnswer (Ok ready) = IsAnswer (answer_of (ready_status ready.refused) ready.text.items [] ready.edits)
+Prepares ws IsAnswer (Ok ready) = IsAnswer (ready_answer ready)
 Prepares ws IsAnswer (Err stop) = Stops ws IsAnswer stop
 
--- what every command answers where the workspace file has no workspace
+-- the same whatever the workspace file is
+abbrev pub Answers : (Answer → Type 0) → Result Ready Stop → Type 0
+Answers IsAnswer result = (ws : List ℕ) → Prepares ws IsAnswer result
+
+-- What is told over an analysis is an answer, or the message of its refusal is, unless memory ran out; there is no other early end.
+abbrev pub Tells : {X : Type 0} → (X → Answer) → (Answer → Type 0) → Result X Stop → Type 0
+Tells answer IsAnswer (Ok x) = IsAnswer (answer x)
+Tells answer IsAnswer (Err (Refused why)) = IsAnswer (stopped status.Refused (why_line why))
+Tells answer IsAnswer (Err Memory) = Unit {0}
+Tells answer IsAnswer (Err (Workspace fault)) = ⊥
+Tells answer IsAnswer (Err (Unread path)) = ⊥
+
+-- the answers to a query of `report`
+abbrev pub IsQueried : Query → AnalysisValue → Answer → Type 0
+IsQueried q value a = (told : Option (List ℕ)) × IsReport value q told × (told_answer told ≡ a)
+
+-- what a step says of reads: where it goes on, none failed
+abbrev pub reads_of : {X : Type 0} → Result X Stop → ReadEnd
+reads_of (Ok x) = NoneFailed
+reads_of (Err stop) = stop_reads stop
+
+-- an early end without a read that failed
+abbrev pub IsQuiet : Stop → Type 0
+IsQuiet (Workspace fault) = Unit {0}
+IsQuiet (Unread path) = ⊥
+IsQuiet (Refused why) = Unit {0}
+IsQuiet Memory = Unit {0}
+
+-- ---- what is read
+
+-- what every ask answers where the workspace file has no workspace
 abbrev pub no_workspace : List ℕ → Option (Result WorkspaceValue WsFault) → Option Answer
 no_workspace ws None = Some (stopped status.Workspace (absent_line ws))
 no_workspace ws (Some (Ok w)) = None
@@ -44,6 +81,16 @@ abbrev pub ReadsWorkspace : List ℕ → FileMap → Result WorkspaceValue Stop 
 ReadsWorkspace ws files (Ok w) = workspace_at ws files ≡ Some (Ok w)
 ReadsWorkspace ws files (Err stop) = Stops ws (λ a. no_workspace ws (workspace_at ws files) ≡ Some a) stop
 
+-- what reports and edits answer where a unit is not accepted
+abbrev pub no_analysis : Result AnalysisValue UnitFault → Option Answer
+no_analysis (Ok value) = None
+no_analysis (Err fault) = Some (stopped status.Workspace (text_fault_line fault))
+
+-- the workspace has this analysis, or a unit is not accepted, and the message of the early end says so
+abbrev pub Analyses : {X : Type 0} → (X → AnalysisValue) → WorkspaceValue → FileMap → Result X Stop → Type 0
+Analyses view w files (Ok x) = analysis_of (source_of files) w ≡ Ok (view x)
+Analyses view w files (Err stop) = (ws : List ℕ) → Stops ws (λ a. no_analysis (analysis_of (source_of files) w) ≡ Some a) stop
+
 -- what a batch answers where the batch file has no lines to run
 abbrev pub no_lines : Option (Result (List LineValue) ℕ) → Option Answer
 no_lines None = Some (stopped status.Refused (batch_line 0))
@@ -51,107 +98,56 @@ no_lines (Some (Ok lines)) = None
 no_lines (Some (Err line)) = Some (stopped status.Refused (batch_line line))
 
 -- the batch file holds these lines, or has none to run, and the message of the early end says so
-abbrev pub ReadsLines : {X : Type 0} → (X → List LineValue) → List ℕ → List ℕ → FileMap → Result X Stop → Type 0
-ReadsLines view ws file files (Ok lines) = batch_at file files ≡ Some (Ok (view lines))
-ReadsLines view ws file files (Err stop) = Stops ws (λ a. no_lines (batch_at file files) ≡ Some a) stop
+abbrev pub ReadsLines : {X : Type 0} → (X → List LineValue) → List ℕ → FileMap → Result X Stop → Type 0
+ReadsLines view file files (Ok lines) = batch_at file files ≡ Some (Ok (view lines))
+ReadsLines view file files (Err stop) = (ws : List ℕ) → Stops ws (λ a. no_lines (batch_at file files) ≡ Some a) stop
 
--- why a workspace has no texts, as an early end
+-- ---- refusals of the steps, as early ends
+
+-- why a workspace has no texts
 abbrev pub stop_of : AnalyseFault → Stop
-stop_of (fault.WorkspaceFault unit place cause) = UnitFault unit place cause
-stop_of (fault.ReadFault path) = UnreadFile path
+stop_of (fault.WorkspaceFault unit place cause) = Workspace (NotAccepted unit place cause)
+stop_of (fault.ReadFault path) = Unread path
 stop_of fault.Memory = Memory
 
--- why an edit is refused, as an early end
-abbrev pub refused_stop : Refusal → Stop
-refused_stop refusal.BadName = BadName
-refused_stop refusal.NoName = NoName
-refused_stop refusal.NotAFunction = NotAFunction
-refused_stop refusal.BadOrder = BadOrder
-refused_stop (refusal.Offence place cause) = Offence place cause
-
--- why there are no edits, as an early end
-abbrev pub stop_for : PlanFault → Stop
-stop_for (plan.Refused why) = refused_stop why
-stop_for plan.Memory = Memory
-
--- why nothing is found, as an early end
+-- why nothing is found
 abbrev pub find_stop : FindRefusal → Stop
-find_stop (found.BadQuery at) = BadQuery at
-find_stop (found.TooDeep at) = DeepQuery at
+find_stop (found.BadQuery at) = Refused (BadQuery at)
+find_stop (found.TooDeep at) = Refused (DeepQuery at)
 find_stop found.Memory = Memory
 
--- what a step says of reads: where it goes on, none failed
-abbrev pub reads_of : {X : Type 0} → List ℕ → Result X Stop → ReadEnd
-reads_of ws (Ok x) = NoneFailed
-reads_of ws (Err stop) = stop_reads ws stop
+-- ---- what stands ready to be put
 
--- An accepted renaming, as it stands before the first put: it is planned over the analysis of the workspace, and paths of edits
--- are in order.
-pub record Planned (q : RenameValue) (files : FileMap) (edits : List Edit) : Type 0 where
-  pub ws : WorkspaceValue
+-- Accepted edits, as they stand before the first put: they keep what is promised over the analysis of the workspace, and their
+-- paths are in order.
+pub record Planned (edit : EditValue) (ws : WorkspaceValue) (files : FileMap) (edits : List Edit) : Type 0 where
   pub analysis : AnalysisValue
-  pub workspace : workspace_at q.ws files ≡ Some (Ok ws)
   pub analysed : analysis_of (source_of files) ws ≡ Ok analysis
-  pub over : RenamesOver analysis.workspace analysis q.path q.line q.column q.name q.strings edits
+  pub keeps : KeepsOver edit analysis edits
   pub sound : IsKept edits
-
--- what stands ready for a rename is planned
-abbrev pub IsPlanned : RenameValue → FileMap → Result Ready Stop → Type 0
-IsPlanned q files (Ok ready) = Planned q files ready.edits
-IsPlanned q files (Err stop) = Unit {0}
-
--- An accepted new order, as it stands before the first put: it is planned over the analysis of the workspace, and paths of edits
--- are in order.
-pub record Ordered (q : TemplateValue) (files : FileMap) (edits : List Edit) : Type 0 where
-  pub ws : WorkspaceValue
-  pub analysis : AnalysisValue
-  pub workspace : workspace_at q.ws files ≡ Some (Ok ws)
-  pub analysed : analysis_of (source_of files) ws ≡ Ok analysis
-  pub over : ReordersOver analysis.workspace analysis q.path q.line q.column q.order edits
-  pub sound : IsKept edits
-
--- what stands ready for a new order is planned
-abbrev pub IsOrdered : TemplateValue → FileMap → Result Ready Stop → Type 0
-IsOrdered q files (Ok ready) = Ordered q files ready.edits
-IsOrdered q files (Err stop) = Unit {0}
 
 -- A batch whose lines were run, as it stands before the first put.
-pub record LinesRun (q : BatchValue) (files : FileMap) (edits : List Edit) : Type 0 where
-  pub ws : WorkspaceValue
+pub record LinesRun (file : List ℕ) (ws : WorkspaceValue) (files : FileMap) (edits : List Edit) : Type 0 where
   pub lines : List LineValue
   pub plans : List Plan
-  pub workspace : workspace_at q.ws files ≡ Some (Ok ws)
-  pub batch : batch_at q.file files ≡ Some (Ok lines)
+  pub batch : batch_at file files ≡ Some (Ok lines)
   pub answers : IsBatch ws files [] lines plans
   pub keeps : KeepsLines ws files [] lines plans
   pub edits_are : edits ≡ after_each plans []
 
--- what stands ready for a batch was run
-abbrev pub AreRun : BatchValue → FileMap → Result Ready Stop → Type 0
-AreRun q files (Ok ready) = LinesRun q files ready.edits
-AreRun q files (Err stop) = Unit {0}
+-- what stands ready over a workspace, by what is asked: edits are planned, and the lines of a batch were run
+abbrev pub IsPlanned : AskValue → WorkspaceValue → FileMap → List Edit → Type 0
+IsPlanned (edit_asked edit) ws files edits = Planned edit ws files edits
+IsPlanned (batch_asked file) ws files edits = LinesRun file ws files edits
+IsPlanned _ ws files edits = Unit {0}
 
--- the same for what is asked for, where that edits files
-abbrev pub IsPlannedFor : RequestValue → FileMap → Result Ready Stop → Type 0
-IsPlannedFor (renaming_asked q) files result = IsPlanned q files result
-IsPlannedFor (template_asked q) files result = IsOrdered q files result
-IsPlannedFor (batch_asked q) files result = AreRun q files result
-IsPlannedFor _ files result = Unit {0}
+-- the same over a workspace file, which has a workspace
+pub record PlannedOver (file : List ℕ) (ask : AskValue) (files : FileMap) (edits : List Edit) : Type 0 where
+  pub ws : WorkspaceValue
+  pub workspace : workspace_at file files ≡ Some (Ok ws)
+  pub planned : IsPlanned ask ws files edits
 
--- an early end without a read that failed
-abbrev pub IsQuiet : Stop → Type 0
-IsQuiet UnreadWorkspace = ⊥
-IsQuiet (UnreadFile path) = ⊥
-IsQuiet _ = Unit {0}
-
--- an early end after the analysis: no read follows
-abbrev pub IsPlanStop : Stop → Type 0
-IsPlanStop BadName = Unit {0}
-IsPlanStop NoName = Unit {0}
-IsPlanStop NotAFunction = Unit {0}
-IsPlanStop BadOrder = Unit {0}
-IsPlanStop (BadQuery at) = Unit {0}
-IsPlanStop (DeepQuery at) = Unit {0}
-IsPlanStop (Offence place cause) = Unit {0}
-IsPlanStop Memory = Unit {0}
-IsPlanStop _ = ⊥
+-- the same for a request
+abbrev pub IsPlannedFor : RequestValue → FileMap → List Edit → Type 0
+IsPlannedFor (asked_over file ask) files edits = PlannedOver file ask files edits
+IsPlannedFor _ files edits = Unit {0}

@@ -1,14 +1,14 @@
 // The generated workspace: made, analysed and renamed in memory, and counted. It touches no file.
-ghost use Rattle.std.specs.Prelude.{◌≡◌, ◌≤◌, IfErr, Ok};
+ghost use Rattle.std.specs.Prelude.{◌≡◌, ◌≤◌, IfErr};
 ghost use Rattle.cs_base.specs.Limits.{most_tokens_of_all};
 ghost use Rattle.analysis.specs.Counts.{tokens_in};
 ghost use Rattle.generated.specs.Generated.{workspace_path};
 ghost use Rattle.cscout_run.specs.Answer.{IsGenerated, IsSizeAnswer, places_in};
-ghost use Rattle.cscout_run.specs.Steps.{IsPlanStop, IsQuiet, Prepares};
+ghost use Rattle.cscout_run.specs.Steps.{IsQuiet, Prepares, Tells, ready_answer};
 
-use crate::preparing::{Ready, stop_for};
-use crate::reporting::stop_of;
+use crate::preparing::{Ready, to_show};
 use crate::stops::Stop;
+use crate::units::stop_of;
 use crate::workspace_files::read_workspace;
 use analysis::{Analysis, analyse};
 use command_words::size_text;
@@ -33,19 +33,14 @@ pub(crate) fn prepare_generated(alloc: Global, n: u32) -> Result<Ready, Stop>
 // What is told of the generated workspace, once it is analysed.
 fn size_of(alloc: Global, a: &Analysis, n: u32) -> Result<Ready, Stop>
     requires { tokens_in a.now.value.units ≤ most_tokens_of_all }
-    ensures answer { Prepares workspace_path (IsSizeAnswer n (Ok a.now.value)) result }
-    ensures stops { IfErr result IsPlanStop }
+    ensures { Tells ready_answer (IsSizeAnswer n a.now.value) result }
 {
     match plan_rename(alloc, a, "h.h", 1, 12, b"sum", false) {
         Ok(edits) => {
             let text = size_text(alloc, n, tokens(a), places(&edits))?;
-            Ok(Ready {
-                edits: Edits::new(alloc),
-                text,
-                refused: false,
-            })
+            Ok(to_show(alloc, text))
         }
-        Err(fault) => Err(stop_for(fault)),
+        Err(fault) => Err(Stop::from(fault)),
     }
 }
 

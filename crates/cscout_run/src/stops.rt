@@ -1,11 +1,24 @@
 // The early ends of a run: nothing is put.
 use cs_base::{Cause, Memory as NoMemory, Place, Text};
+use offences::{PlanFault, Refusal};
 
 /// Why a run ends before the first put.
 #[derive(Drop)]
 pub enum Stop {
+    /// There is no workspace, or it is not accepted.
+    Workspace(Fault),
+    /// The file of this path could not be read.
+    Unread(Text),
+    /// What is asked for is refused.
+    Refused(Why),
+    Memory,
+}
+
+/// What is wrong with a workspace.
+#[derive(Drop)]
+pub enum Fault {
     /// The workspace file is not there.
-    NoWorkspace,
+    Absent,
     /// A line of the workspace file is refused.
     BadLine {
         line: u32,
@@ -14,46 +27,27 @@ pub enum Stop {
     TooManyUnits {
         line: u32,
     },
-    /// The workspace file could not be read.
-    UnreadWorkspace,
     /// A unit is not accepted.
-    UnitFault {
+    Unit {
         unit: u32,
         place: Place,
         cause: Cause,
     },
-    /// A file of a unit, or the batch file, could not be read.
-    UnreadFile {
-        path: Text,
-    },
-    /// The batch file has a bad line of this number, or is not there: then it is 0.
-    BadBatch {
-        line: u32,
-    },
+}
+
+/// Why what is asked for is refused.
+#[derive(Drop)]
+pub enum Why {
     /// There is no unit with the number.
     NoUnit,
-    /// The new name is no identifier.
-    BadName,
-    /// The place names nothing.
-    NoName,
-    /// The name at the place is that of no function.
-    NotAFunction,
-    /// The numbers are no order of the parameters.
-    BadOrder,
-    /// The word is no query: that byte is the first with which none goes on.
-    BadQuery {
-        at: u32,
-    },
+    /// The batch file has a bad line of this number, or is not there: then it is 0.
+    BadBatch(u32),
+    /// No query goes on with that byte of the word.
+    BadQuery(u32),
     /// Too many `!` and `(` are open in the query, at that byte.
-    DeepQuery {
-        at: u32,
-    },
-    /// Something stands against the edit.
-    Offence {
-        place: Place,
-        cause: Cause,
-    },
-    Memory,
+    DeepQuery(u32),
+    /// The place names nothing, or something else stands against the edit.
+    Refusal(Refusal),
 }
 
 impl From<NoMemory> for Stop {
@@ -64,5 +58,19 @@ impl From<NoMemory> for Stop {
 
     fn from(_: NoMemory) -> Self {
         Stop::Memory
+    }
+}
+
+impl From<PlanFault> for Stop {
+    ghost use Rattle.std.specs.Prelude.{◌≡◌};
+    ghost use Rattle.cscout_run.specs.Stopping.{plan_stop};
+
+    ghost from_gives = { λ fault stop. stop ≡ plan_stop fault };
+
+    fn from(fault: PlanFault) -> Self {
+        match fault {
+            PlanFault::Refused(refusal) => Stop::Refused(Why::Refusal(refusal)),
+            PlanFault::Memory => Stop::Memory,
+        }
     }
 }

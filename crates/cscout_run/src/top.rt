@@ -2,9 +2,10 @@
 ghost use Rattle.std.specs.Prelude.{◌≡◌, ◌↔◌, IfSome, map, string_bytes, None};
 ghost use Rattle.cs_base.specs.Outside.{Writes, Faults, write_failed};
 ghost use Rattle.command_words.specs.Request.{asked};
-ghost use Rattle.cscout_run.specs.Answer.{IsAnswer, ready_status};
+ghost use Rattle.cscout_run.specs.Answer.{IsAnswer};
 ghost use Rattle.cscout_run.specs.Outcome.{world, Ends};
 ghost use Rattle.cscout_run.specs.Promise.{KeepsPromise, KeepsRefused};
+ghost use Rattle.cscout_run.specs.Shapes.{ready_status};
 
 use crate::preparing::prepare;
 use crate::status::Status;

@@ -1,4 +1,4 @@
-use Rattle.cscout_run.proofs.RunLemmas.{answers_alike}
+use Rattle.cscout_run.proofs.AnswerLemmas.{answers_alike}
 use Rattle.cscout_run.proofs.laws.words_and_files_decide.Goals as goal
 
 pub returns : goal.returns

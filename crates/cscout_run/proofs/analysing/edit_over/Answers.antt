@@ -1,0 +1,25 @@
+use Rattle.command_words.specs.Asking.{edit_value}
+use Rattle.cscout_run.specs.Asks.{IsEditAnswer}
+use Rattle.cscout_run.specs.Steps.{ready_answer}
+use Rattle.cscout_run.proofs.OverLemmas.{analysed-answers, planned_told, tells-reads, unanalysed}
+use Rattle.cscout_run.proofs.analysing.edit_over.Goals as goal
+
+pub returns-in_err-analysis-clause-answer : goal.returns-in_err-analysis-clause-answer
+returns-in_err-analysis-clause-answer g c =
+    unanalysed (g.F.Files.told c.args.files.now).held c.args.ws.now (IsEditAnswer (edit_value c.args.edit.now)) c.in_err-analysis.field-0.0
+    c.from_residual.result c.from_residual.ensures.1 c.in_err-analysis.ensures.answer
+
+pub returns-clause-answer : goal.returns-clause-answer
+returns-clause-answer g c =
+    analysed-answers (g.F.Files.told c.args.files.now).held c.args.ws.now c.in_ok-analysis.analysis.value (IsEditAnswer (edit_value c.args.edit.now))
+    c.edited-answer.result c.in_ok-analysis.ensures.answer c.edited-answer.ensures.answer
+
+pub returns-clause-planned : goal.returns-clause-planned
+returns-clause-planned g c =
+    planned_told (g.F.Files.told c.args.files.now).held (edit_value c.args.edit.now) c.args.ws.now c.in_ok-analysis.analysis.value c.edited-answer.result
+    c.in_ok-analysis.ensures.answer c.edited-answer.ensures.keeps c.edited-answer.ensures.sound
+
+pub returns-clause-faults : goal.returns-clause-faults
+returns-clause-faults g c =
+    tells-reads ready_answer (IsEditAnswer (edit_value c.args.edit.now) c.in_ok-analysis.analysis.value) c.edited-answer.result
+    (g.F.Files.told c.args.files.now) (g.F.Files.told c.analysis_over.new.files) c.edited-answer.ensures.answer c.in_ok-analysis.ensures.faults

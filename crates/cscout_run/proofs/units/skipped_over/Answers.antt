@@ -1,0 +1,14 @@
+use Rattle.std.proofs.Common.{◌≡◌, refl}
+use Rattle.query_report.specs.Skipped.{skipped_text}
+use Rattle.cscout_run.proofs.OverLemmas.{shows, skipped-ok, skipped-stop}
+use Rattle.cscout_run.proofs.units.skipped_over.Goals as goal
+
+pub returns-in-Ok-clause-answer : goal.returns-in-Ok-clause-answer
+returns-in-Ok-clause-answer g c =
+    let text : c.to_show.result.text.items ≡ skipped_text c.in-Ok.all = rw c.to_show.ensures.text c.in_ok-print_skipped-in-Ok.ensures in
+    skipped-ok (g.F.Files.told c.args.files.now).held c.args.ws.now c.in-Ok.all c.to_show.result c.in-Ok.ensures.answer
+    (shows c.to_show.result (skipped_text c.in-Ok.all) text c.to_show.ensures.edits c.to_show.ensures.refused)
+
+pub returns-clause-answer : goal.returns-clause-answer
+returns-clause-answer g c =
+    skipped-stop (g.F.Files.told c.args.files.now).held c.args.ws.now c.in-Err.fault c.stop_of.result c.stop_of.ensures c.in-Err.ensures.answer
