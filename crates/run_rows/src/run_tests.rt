@@ -1,10 +1,9 @@
 // Whole runs over files and sinks in memory, and the adapters over one real file.
-use crate::batches::{BATCHES, Ended, FOUR_ENDED, FOUR_FILES, FOUR_REFUSED, FOUR_REFUSED_ENDED};
-use crate::classes::{CLASSES, FAILING_CLASSES};
-use crate::lists::{FAILING_LISTS, LISTS};
-use crate::reports::{FAILING_REPORTS, GENERATED, REFUSED_REPORTS, REPORTS};
-use crate::tables::{FAILING, ROWS, Row, TWO_FILES};
-use crate::templates::TEMPLATES;
+use crate::batches::{Ended, FOUR_ENDED, FOUR_FILES, FOUR_REFUSED, FOUR_REFUSED_ENDED};
+use crate::reports::{
+    FAILING_CLASSES, FAILING_LISTS, FAILING_NOTHING, FAILING_READS, FAILING_REPORTS,
+};
+use crate::tables::{FAILING, Failing, ROWS, Row, TWO_FILES};
 use cs_base::{Files, Got, MemFiles, MemSink, Memory, Put};
 use cscout_run::{HostFiles, Status, run};
 use row_tools::held;
@@ -77,102 +76,44 @@ fn check<R: Abort + AllocGlobal>(
     Ok(())
 }
 
+// Runs the row, the call of its number failing, and asserts what it leaves.
+fn check_failing<R: Abort + AllocGlobal>(rt: &R, failing: &Failing) -> Result<(), Memory> {
+    check(
+        rt,
+        &failing.row,
+        failing.call,
+        failing.out_call,
+        failing.err_call,
+    )
+}
+
 #[test]
 fn runs_answer_as_worked_by_hand(rt: HostRuntime) -> Result<(), Memory> {
     for row in &ROWS {
         check(&rt, row, 0, 0, 0)?;
     }
     for failing in &FAILING {
-        check(
-            &rt,
-            &failing.row,
-            failing.call,
-            failing.out_call,
-            failing.err_call,
-        )?;
+        check_failing(&rt, failing)?;
     }
     Ok(())
 }
 
 #[test]
-fn reports_are_refused_as_worked_by_hand(rt: HostRuntime) -> Result<(), Memory> {
-    for row in &REFUSED_REPORTS {
-        check(&rt, row, 0, 0, 0)?;
-    }
-    Ok(())
-}
-
-#[test]
-fn reports_answer_as_worked_by_hand(rt: HostRuntime) -> Result<(), Memory> {
-    for row in &REPORTS {
-        check(&rt, row, 0, 0, 0)?;
-    }
+fn reports_end_where_a_call_fails(rt: HostRuntime) -> Result<(), Memory> {
     for failing in &FAILING_REPORTS {
-        check(
-            &rt,
-            &failing.row,
-            failing.call,
-            failing.out_call,
-            failing.err_call,
-        )?;
-    }
-    Ok(())
-}
-
-#[test]
-fn generated_workspaces_are_told_by_their_sizes(rt: HostRuntime) -> Result<(), Memory> {
-    for row in &GENERATED {
-        check(&rt, row, 0, 0, 0)?;
-    }
-    Ok(())
-}
-
-#[test]
-fn orders_are_run_as_worked_by_hand(rt: HostRuntime) -> Result<(), Memory> {
-    for row in &TEMPLATES {
-        check(&rt, row, 0, 0, 0)?;
-    }
-    Ok(())
-}
-
-#[test]
-fn lists_are_told_as_worked_by_hand(rt: HostRuntime) -> Result<(), Memory> {
-    for row in &LISTS {
-        check(&rt, row, 0, 0, 0)?;
-    }
-    for failing in &FAILING_LISTS {
-        check(
-            &rt,
-            &failing.row,
-            failing.call,
-            failing.out_call,
-            failing.err_call,
-        )?;
-    }
-    Ok(())
-}
-
-#[test]
-fn classes_are_told_as_worked_by_hand(rt: HostRuntime) -> Result<(), Memory> {
-    for row in &CLASSES {
-        check(&rt, row, 0, 0, 0)?;
+        check_failing(&rt, failing)?;
     }
     for failing in &FAILING_CLASSES {
-        check(
-            &rt,
-            &failing.row,
-            failing.call,
-            failing.out_call,
-            failing.err_call,
-        )?;
+        check_failing(&rt, failing)?;
     }
-    Ok(())
-}
-
-#[test]
-fn batches_answer_as_worked_by_hand(rt: HostRuntime) -> Result<(), Memory> {
-    for row in &BATCHES {
-        check(&rt, row, 0, 0, 0)?;
+    for failing in &FAILING_LISTS {
+        check_failing(&rt, failing)?;
+    }
+    for failing in &FAILING_READS {
+        check_failing(&rt, failing)?;
+    }
+    for failing in &FAILING_NOTHING {
+        check_failing(&rt, failing)?;
     }
     Ok(())
 }

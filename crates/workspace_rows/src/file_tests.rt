@@ -27,60 +27,6 @@ const LINES: &str = "\
     project p\nstandard c11\nreadonly r\nfile a.c$readonly r\nproject p\nstandard c11\nfile a.c\n%\
     include ./i//x.h\nipath j\nqpath k/../q\nqpath .\ninclude y z.h\ndefine A\nfile a.c\nproject p\nfile a.c$project default\nqpath q\nqpath .\nipath j\ndefine A\ninclude i/x.h\ninclude y z.h\nfile a.c\nproject p\nfile a.c\n";
 
-// Workspace files, each with the line that is refused.
-const BAD_LINES: &str = "\
-    project p\nfle a.c$bad 2%\
-    file a.c\nbad\nfile <$bad 2%\
-    file$bad 1%\
-    file \t$bad 1%\
-    project$bad 1%\
-    project a b$bad 1%\
-    ipath$bad 1%\
-    readonly $bad 1%\
-    define$bad 1%\
-    define 1x$bad 1%\
-    undefine a-b$bad 1%\
-    undefine 1$bad 1%\
-    undefine a b$bad 1%\
-    standard$bad 1%\
-    standard \t$bad 1%\
-    standard c17$bad 1%\
-    standard C11$bad 1%\
-    standard c11 x$bad 1%\
-    standard c99 c11$bad 1%\
-    standard c$bad 1%\
-    standard c111$bad 1%\
-    Standard c11$bad 1%\
-    standards c11$bad 1%\
-    standardc11$bad 1%\
-    File a.c$bad 1%\
-    files a.c$bad 1%\
-    \u{b}file a.c$bad 1%\
-    file <x$bad 1%\
-    file ./<x$bad 1%\
-    file .$bad 1%\
-    file a/..$bad 1%\
-    file ./ a$bad 1%\
-    file a /.$bad 1%\
-    ipath ./ a$bad 1%\
-    ipath b\\/.$bad 1%\
-    qpath$bad 1%\
-    qpath ./ a$bad 1%\
-    qpath b\\/.$bad 1%\
-    include$bad 1%\
-    include .$bad 1%\
-    include a\"b.h$bad 1%\
-    include <x>$bad 1%\
-    include ./ a$bad 1%\
-    include a /.$bad 1%\
-    includes a.h$bad 1%\
-    standard gnu17$bad 1%\
-    file a\\$bad 1%\
-    define f(x) x\\ $bad 1%\
-    # x\\$bad 1%\
-    # x\\ $bad 1%\
-    \\$bad 1";
-
 // Files of some 2^22 bytes: how many follow the first, what stands behind them, and what the file says.
 const SIZES: &str = "\
     4194303$$%\
@@ -134,19 +80,6 @@ fn each_line_says_what_it_may(rt: HostRuntime) -> Result<(), Fail> {
         let again = shown(alloc, text.as_slice())?;
         assert_eq!(rt; again.as_slice(), want.as_bytes(), "{file:?}, printed");
     }
-    Ok(())
-}
-
-#[test]
-fn a_bad_line_is_named(rt: HostRuntime) -> Result<(), Fail> {
-    let alloc = rt.alloc();
-    for row in BAD_LINES.split('%') {
-        let (file, want) = cut(row);
-        let text = shown(alloc, file.as_bytes())?;
-        assert_eq!(rt; text.as_slice(), want.as_bytes(), "{file:?}");
-    }
-    let text = shown(alloc, b"\n# \xff")?;
-    assert_eq!(rt; text.as_slice(), b"bad 2".as_slice(), "no UTF-8");
     Ok(())
 }
 

@@ -1,0 +1,1 @@
+includes a.h
