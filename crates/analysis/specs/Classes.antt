@@ -1,10 +1,7 @@
 -- The table of classes that an analysis has, and what is promised of both.
-use Rattle.std.specs.Prelude.{◌≡◌, Ok}
 use Rattle.cs_base.specs.declared.positions.Part.{Part}
-use Rattle.ws_file.specs.Workspace.{WorkspaceValue}
-use Rattle.include_tree.specs.Below.source_files.Files.{Source}
 use Rattle.eclass_map.specs.ClassTable.{Table, IsAdded, AreLinks, HasParts}
-use Rattle.analysis.specs.Analysis.{AnalysisValue, analysis_of}
+use Rattle.analysis.specs.Analysis.{AnalysisValue}
 use Rattle.analysis.specs.FileTokens.{IsFileToken}
 use Rattle.analysis.specs.Links.{linked_pairs}
 
@@ -19,8 +16,3 @@ pub record AreItsClasses (a : AnalysisValue) (classes : Table) : Type 0 where
   pub all : (token : Part) → IsFileToken a token → IsAdded classes token
   pub links : AreLinks (linked_pairs a) classes
   pub parts : HasParts classes
-
--- An analysis of a workspace over what files hold, with its classes.
-pub record IsAnalysis (source : Source) (ws : WorkspaceValue) (a : AnalysisValue) (classes : Table) : Type 0 where
-  pub accepted : analysis_of source ws ≡ Ok a
-  pub own : AreItsClasses a classes

@@ -6,18 +6,19 @@ use Rattle.std.specs.Option.{option_map, option_map_or, option_and_then}
 use Rattle.std.specs.Str.{bytes_eq}
 use Rattle.std.proofs.lemmas.Bool.{cases_Bool, and_parts, false≢true}
 use Rattle.std.proofs.lemmas.Option.{none-some, same_Some}
+use Rattle.cs_base.specs.declared.positions.Part.{Part}
 use Rattle.cs_base.specs.Edit.{Edit, edit, comes_before}
 use Rattle.cs_base.proofs.FileMapLemmas.{bytes_eq-equal}
 use Rattle.tree_laws.proofs.Lookups.{In}
+use Rattle.analysis.specs.Analysis.{AnalysisValue}
 use Rattle.offences.specs.First.{IsAmong}
-use Rattle.source_files.specs.Files.{Entry, Table, number_of}
+use Rattle.source_files.specs.Files.{Entry, Source, Table, number_of}
 use Rattle.source_files.specs.KeptFiles.{KeptValue, kept_at, kept_in, kept_bytes}
 use Rattle.source_files.specs.Tables.{HasEachOnce, paths_in}
 use Rattle.template_rules.specs.declared.file_lists.FoundList.{FoundList}
 use Rattle.template_rules.specs.FileLists.{all_found, lists_in, new_bytes, edit_for, edit_in, edits_from, edits_of}
-use Rattle.edited_files.specs.Edited.{with_edit, with_each}
-use Rattle.template_meaning.specs.Kept.{EditsReorderFiles}
-use Rattle.reordered.specs.Reorder.{HoldsLists}
+use Rattle.edited_files.specs.Edited.{AreMade, with_edit, with_each}
+use Rattle.reordered.specs.Reorder.{AreReordered, HoldsLists}
 use Rattle.template_meaning.proofs.TablesEdited.{number_path, kept_entry}
 
 -- ---- Lists of edits
@@ -216,9 +217,13 @@ module _ (found : List FoundList) (order : List ℕ) where
       front behind None kept = behind
       front behind (Some f) kept = one behind f (lists_in found f.number) kept
 
--- ---- The law
+-- ---- The edits
 
-pub edits_reorder_files : EditsReorderFiles
+-- The edits of a new order put the items of all lists in it, and nothing else, where each path has one number, and files that hold
+-- lists had the bytes that were read.
+pub edits_reorder_files : (a : AnalysisValue) (members : List Part) (order : List ℕ) (before now : Source) → HasEachOnce a.table
+    → ((f : KeptValue) → HoldsLists a members f → before f.path ≡ Some f.bytes) → AreMade (edits_of members a order) before now
+    → AreReordered members order a before now
 unfolding edits_of
 edits_reorder_files a members order before now once held made =
     record {
