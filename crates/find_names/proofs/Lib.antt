@@ -1,3 +1,4 @@
-pub mod TokenLemmas
-pub mod QuestionLemmas
 pub mod FoundLemmas
+pub mod GrammarLemmas
+pub mod QuestionLemmas
+pub mod TokenLemmas

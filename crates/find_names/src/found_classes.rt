@@ -1,11 +1,13 @@
 // The classes that satisfy a query, and their lines.
-ghost use Rattle.std.specs.Prelude.{◌≡◌, ◌<◌, ◌^◌, ◌++◌, Ok, IfErr, IfOk, IfSome, MatchBool, OnOk, length};
+ghost use Rattle.std.specs.Prelude.{◌≡◌, ◌<◌, ◌^◌, ◌++◌, Ok, Err, IfErr, IfOk, IfSome, MatchBool, OnOk, length};
 ghost use Rattle.analysis.specs.Parts.{AreMembers, IsFirst, IsPart};
 ghost use Rattle.analysis.specs.Spellings.{spelling_of};
+ghost use Rattle.query_words.specs.Grammar.{Alternatives, Derives, IsRead};
 ghost use Rattle.query_words.specs.Queries.{Query};
-ghost use Rattle.query_words.specs.Reading.{parsed};
+ghost use Rattle.query_words.specs.Reading.{depth_limit, parsed};
 ghost use Rattle.find_names.specs.FileTokens.{AreFileTokens};
 ghost use Rattle.find_names.specs.Found.{IsFound, found_line, PrintsFound, PrintsLine, Refuses};
+ghost use Rattle.find_names.specs.Refusals.{fault_of};
 ghost use Rattle.find_names.specs.RoleMarks.{AreRoleMarks};
 
 use crate::class_facts::facts_of;
@@ -140,6 +142,17 @@ fn places_for(alloc: Global, query: &[u8]) -> Result<Vec<bool>, Memory>
 /// member, the number of members and the spelling, in the order of the places. Refused: a word that is no query,
 /// by its first fault; `Memory` where memory ran out.
 pub fn find(alloc: Global, a: &Analysis, query: &[u8]) -> Result<Vec<u8>, FindRefusal>
+    ensures answer { IfOk result (λ text. (q : Query) × (parsed query.now ≡ Ok q) × PrintsFound a.now.value q text.items) }
+    ensures refused { IfErr result (Refuses query.now) }
+    // The query is one that the grammar derives; and where the word is none, its first fault is so by the grammar alone.
+    ensures derived { IfOk result (λ text. (q : Query) × Derives Alternatives depth_limit query.now q × PrintsFound a.now.value q text.items) }
+    ensures fault { IfErr result (λ refusal. IfSome (fault_of refusal) (λ fault. IsRead query.now (Err fault))) }
+{
+    found(alloc, a, query)
+}
+
+// The same, as the query is read.
+fn found(alloc: Global, a: &Analysis, query: &[u8]) -> Result<Vec<u8>, FindRefusal>
     ensures answer { IfOk result (λ text. (q : Query) × (parsed query.now ≡ Ok q) × PrintsFound a.now.value q text.items) }
     ensures refused { IfErr result (Refuses query.now) }
 {
