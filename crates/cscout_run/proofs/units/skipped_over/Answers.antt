@@ -9,6 +9,6 @@ returns-in-Ok-clause-answer g c =
     skipped-ok (g.F.Files.told c.args.files.now).held c.args.ws.now c.in-Ok.all c.to_show.result c.in-Ok.ensures.answer
     (shows c.to_show.result (skipped_text c.in-Ok.all) text c.to_show.ensures.edits c.to_show.ensures.refused)
 
-pub returns-clause-answer : goal.returns-clause-answer
-returns-clause-answer g c =
+pub returns-in-Err-clause-answer : goal.returns-in-Err-clause-answer
+returns-in-Err-clause-answer g c =
     skipped-stop (g.F.Files.told c.args.files.now).held c.args.ws.now c.in-Err.fault c.stop_of.result c.stop_of.ensures c.in-Err.ensures.answer

@@ -10,8 +10,8 @@ returns-in-Ok-clause-answer g c =
     tokens-ok (g.F.Files.told c.args.files.now).held c.args.unit c.args.ws.now c.in-Ok.text c.to_show.result bounds.0 bounds.1 c.in-Ok.ensures.answer
     (shows c.to_show.result (tokens_text c.in-Ok.text) text c.to_show.ensures.edits c.to_show.ensures.refused)
 
-pub returns-clause-answer : goal.returns-clause-answer
-returns-clause-answer g c =
+pub returns-in-Err-clause-answer : goal.returns-in-Err-clause-answer
+returns-in-Err-clause-answer g c =
     let bounds = c.if-not-has_unit.ensures in
     tokens-stop (g.F.Files.told c.args.files.now).held c.args.unit c.args.ws.now c.in-Err.fault c.stop_of.result bounds.0 bounds.1 c.stop_of.ensures
     c.in-Err.ensures.answer
