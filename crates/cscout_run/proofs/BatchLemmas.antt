@@ -2,7 +2,7 @@
 use Rattle.std.proofs.Common.{◌≡◌, ℕ, List, [], Option, None, Some, Result, Ok, Err, refl, sym, subst, ◌∙◌}
 use Rattle.std.specs.Prelude.{IfSome, IsErrAnd}
 use Rattle.std.proofs.lemmas.Option.{none-some}
-use Rattle.cs_base.specs.Outside.{FileMap, FilesTold, ReadEnd, ReadsOnly}
+use Rattle.cs_base.specs.Outside.{FileMap}
 use Rattle.batch_run.specs.Line.{LineValue}
 use Rattle.batch_run.specs.declared.running.Batched.{Batched}
 use Rattle.batch_run.specs.Running.{Runs}
@@ -10,16 +10,14 @@ use Rattle.ws_file.specs.Workspace.{WorkspaceValue}
 use Rattle.analysis.specs.Below.source_files.Files.{source_of}
 use Rattle.analysis.specs.Analysis.{AnalysisValue, analysis_of}
 use Rattle.analysis.specs.Texts.{UnitFault}
-use Rattle.analysis.specs.Answers as core
 use Rattle.analysis.specs.declared.analyse_fault.AnalyseFault.{AnalyseFault}
-use Rattle.analysis.specs.declared.analyse_fault.AnalyseFault.TheVariants as fault
 use Rattle.command_words.specs.Request.{batch_asked}
 use Rattle.cscout_run.specs.declared.preparing.Ready.{Ready}
 use Rattle.cscout_run.specs.declared.stops.Stop.{Stop}
 use Rattle.cscout_run.specs.Answer.{IsAnalysed, IsAskAnswer, IsBatchAnswer, IsLinesAnswer, batch_at, lines_answer}
 use Rattle.cscout_run.specs.Shapes.{Answer}
 use Rattle.cscout_run.specs.Steps.{Answers, LinesRun, no_analysis, no_lines, ready_answer, stop_of}
-use Rattle.cscout_run.specs.Stopping.{Stops, stop_reads}
+use Rattle.cscout_run.specs.Stopping.{Stops}
 use Rattle.cscout_run.proofs.OverLemmas.{fault-stops, handed_on, none-analysed}
 use Rattle.cscout_run.proofs.RunLemmas.{if_told-map, stops-map}
 
@@ -93,16 +91,3 @@ run-stop file w lines f end fs is found =
     let analysed = analysis_of (source_of fs) w in
     λ ws. stops-map ws (λ a. no_analysis analysed ≡ Some a) (IsAskAnswer fs (batch_asked file) w) end
     (λ a h. over_lines fs file w lines a found.batch (none-analysed (IsLinesAnswer fs w lines) analysed a h)) (fault-stops ws f end analysed is found.runs)
-
--- ---- what is told of reads
-
-fault_reads : (f : AnalyseFault) → core.reads_of {X = Batched} (Err f) ≡ stop_reads (stop_of f)
-fault_reads (fault.WorkspaceFault unit place cause) = refl
-fault_reads (fault.ReadFault path) = refl
-fault_reads fault.Memory = refl
-
--- an early end behind a fault of the workspace
-pub stop_told : (a b : FilesTold) (f : AnalyseFault) (end : Stop) → end ≡ stop_of f → ReadsOnly a b (core.reads_of {X = Batched} (Err f))
-    → ReadsOnly a b (stop_reads end)
-stop_told a b f end is reads =
-    subst (λ (e : Stop). ReadsOnly a b (stop_reads e)) (sym is) (subst (λ (e : ReadEnd). ReadsOnly a b e) (fault_reads f) reads)

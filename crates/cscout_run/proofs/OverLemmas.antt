@@ -5,7 +5,7 @@ use Rattle.std.specs.Option.{option_map, option_map_or}
 use Rattle.std.proofs.lemmas.Option.{slice_get_cases}
 use Rattle.cs_base.specs.Answer.{Gives}
 use Rattle.cs_base.specs.Edit.{IsKept}
-use Rattle.cs_base.specs.Outside.{FileMap, FilesTold, NoneFailed, ReadsOnly}
+use Rattle.cs_base.specs.Outside.{FileMap, FilesTold, NoneFailed, ReadEnd, ReadsOnly}
 use Rattle.cs_base.specs.Units.{UnitValue}
 use Rattle.ws_file.specs.Workspace.{WorkspaceValue}
 use Rattle.ws_file.specs.Reading.{WsFault}
@@ -14,6 +14,7 @@ use Rattle.analysis.specs.Below.unit_steps.Texts.{UnitTextValue}
 use Rattle.analysis.specs.Analysis.{AnalysisValue, analysis_of}
 use Rattle.analysis.specs.Texts.{TextsValue, UnitFault, unit_at, alone, one_text_of, texts_of}
 use Rattle.analysis.specs.Answers.{fault_of}
+use Rattle.analysis.specs.Answers as core
 use Rattle.analysis.specs.declared.analyse_fault.AnalyseFault.{AnalyseFault}
 use Rattle.analysis.specs.declared.analyse_fault.AnalyseFault.TheVariants as fault
 use Rattle.query_report.specs.Skipped.{skipped_text}
@@ -57,6 +58,17 @@ handed_tells answer IsOne (stop.Unread path) (Err e) same p = absurd p
 pub reads_then : {X : Type 0} (a b c : FilesTold) (result : Result X Stop) → ReadsOnly a b NoneFailed → ReadsOnly b c (reads_of result)
     → ReadsOnly a c (reads_of result)
 reads_then a b c result first then = subst (λ (x : FilesTold). ReadsOnly x c (reads_of result)) first.told then
+
+-- an early end behind a fault of the workspace
+fault_reads : {X : Type 0} (f : AnalyseFault) → core.reads_of {X = X} (Err f) ≡ stop_reads (stop_of f)
+fault_reads (fault.WorkspaceFault unit place cause) = refl
+fault_reads (fault.ReadFault path) = refl
+fault_reads fault.Memory = refl
+
+pub stop_told : {X : Type 0} (a b : FilesTold) (f : AnalyseFault) (end : Stop) → end ≡ stop_of f → ReadsOnly a b (core.reads_of {X = X} (Err f))
+    → ReadsOnly a b (stop_reads end)
+stop_told {X} a b f end is reads =
+    subst (λ (e : Stop). ReadsOnly a b (stop_reads e)) (sym is) (subst (λ (e : ReadEnd). ReadsOnly a b e) (fault_reads {X = X} f) reads)
 
 -- what is told over an analysis tells of no read
 pub tells-reads : {X : Type 0} (answer : X → Answer) (IsOne : Answer → Type 0) (result : Result X Stop) (a b : FilesTold)

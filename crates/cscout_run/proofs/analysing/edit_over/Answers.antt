@@ -1,13 +1,18 @@
 use Rattle.command_words.specs.Asking.{edit_value}
 use Rattle.cscout_run.specs.Asks.{IsEditAnswer}
 use Rattle.cscout_run.specs.Steps.{ready_answer}
-use Rattle.cscout_run.proofs.OverLemmas.{analysed-answers, planned_told, tells-reads, unanalysed}
+use Rattle.cscout_run.proofs.OverLemmas.{analysed-answers, handed_told, planned_told, tells-reads, unanalysed}
 use Rattle.cscout_run.proofs.analysing.edit_over.Goals as goal
 
 pub returns-in_err-analysis-clause-answer : goal.returns-in_err-analysis-clause-answer
 returns-in_err-analysis-clause-answer g c =
     unanalysed (g.F.Files.told c.args.files.now).held c.args.ws.now (IsEditAnswer (edit_value c.args.edit.now)) c.in_err-analysis.field-0.0
     c.from_residual.result c.from_residual.ensures.1 c.in_err-analysis.ensures.answer
+
+pub returns-in_err-analysis-clause-faults : goal.returns-in_err-analysis-clause-faults
+returns-in_err-analysis-clause-faults g c =
+    handed_told (g.F.Files.told c.args.files.now) (g.F.Files.told c.analysis_over.new.files) c.in_err-analysis.field-0.0 c.from_residual.result
+    c.from_residual.ensures.1 c.in_err-analysis.ensures.faults
 
 pub returns-clause-answer : goal.returns-clause-answer
 returns-clause-answer g c =

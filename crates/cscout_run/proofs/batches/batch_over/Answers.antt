@@ -3,8 +3,8 @@ use Rattle.cs_base.specs.Outside.{FileMap, FilesTold}
 use Rattle.batch_run.specs.Line.{LineValue}
 use Rattle.batch_run.specs.declared.running.Batched.{Batched}
 use Rattle.analysis.specs.declared.analyse_fault.AnalyseFault.{AnalyseFault}
-use Rattle.cscout_run.proofs.BatchLemmas.{found, lines-stop, lines_run, ready-run, run-stop, stop_told}
-use Rattle.cscout_run.proofs.OverLemmas.{reads_then}
+use Rattle.cscout_run.proofs.BatchLemmas.{found, lines-stop, lines_run, ready-run, run-stop}
+use Rattle.cscout_run.proofs.OverLemmas.{handed_told, reads_then, stop_told}
 use Rattle.cscout_run.proofs.RunLemmas.{if_told-map}
 use Rattle.cscout_run.proofs.batches.batch_over.Goals as goal
 
@@ -12,6 +12,11 @@ pub returns-in_err-lines-clause-answer : goal.returns-in_err-lines-clause-answer
 returns-in_err-lines-clause-answer g c =
     lines-stop (g.F.Files.told c.args.files.now).held c.args.file.now c.args.ws.now c.in_err-lines.field-0.0 c.from_residual.result
     c.from_residual.ensures.1 c.in_err-lines.ensures.answer
+
+pub returns-in_err-lines-clause-faults : goal.returns-in_err-lines-clause-faults
+returns-in_err-lines-clause-faults g c =
+    handed_told (g.F.Files.told c.args.files.now) (g.F.Files.told c.read_lines.new.files) c.in_err-lines.field-0.0 c.from_residual.result
+    c.from_residual.ensures.1 c.in_err-lines.ensures.faults
 
 pub returns-in-Ok-clause-answer : goal.returns-in-Ok-clause-answer
 returns-in-Ok-clause-answer g c =
@@ -56,4 +61,4 @@ returns-clause-faults g c =
     let b : FilesTold = g.F.Files.told c.read_lines.new.files in
     let d : FilesTold = g.F.Files.told c.run_batch.new.files in
     reads_then a b d (Err c.stop_of.result) c.in_ok-lines.ensures.faults
-    (stop_told b d c.in-Err.fault c.stop_of.result c.stop_of.ensures c.in-Err.ensures.faults)
+    (stop_told {X = Batched} b d c.in-Err.fault c.stop_of.result c.stop_of.ensures c.in-Err.ensures.faults)

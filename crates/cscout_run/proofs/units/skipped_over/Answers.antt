@@ -1,6 +1,7 @@
 use Rattle.std.proofs.Common.{◌≡◌, refl}
 use Rattle.query_report.specs.Skipped.{skipped_text}
-use Rattle.cscout_run.proofs.OverLemmas.{shows, skipped-ok, skipped-stop}
+use Rattle.cscout_run.specs.declared.preparing.Ready.{Ready}
+use Rattle.cscout_run.proofs.OverLemmas.{shows, stop_told, skipped-ok, skipped-stop}
 use Rattle.cscout_run.proofs.units.skipped_over.Goals as goal
 
 pub returns-in-Ok-clause-answer : goal.returns-in-Ok-clause-answer
@@ -12,3 +13,11 @@ returns-in-Ok-clause-answer g c =
 pub returns-in-Err-clause-answer : goal.returns-in-Err-clause-answer
 returns-in-Err-clause-answer g c =
     skipped-stop (g.F.Files.told c.args.files.now).held c.args.ws.now c.in-Err.fault c.stop_of.result c.stop_of.ensures c.in-Err.ensures.answer
+
+pub returns-in-Ok-clause-faults : goal.returns-in-Ok-clause-faults
+returns-in-Ok-clause-faults g c = c.in-Ok.ensures.faults
+
+pub returns-in-Err-clause-faults : goal.returns-in-Err-clause-faults
+returns-in-Err-clause-faults g c =
+    stop_told {X = Ready} (g.F.Files.told c.args.files.now) (g.F.Files.told c.texts.new.files) c.in-Err.fault c.stop_of.result c.stop_of.ensures
+    c.in-Err.ensures.faults

@@ -1,6 +1,7 @@
 use Rattle.std.proofs.Common.{◌≡◌, refl}
 use Rattle.query_report.specs.TokensText.{tokens_text}
-use Rattle.cscout_run.proofs.OverLemmas.{shows, tokens-ok, tokens-stop}
+use Rattle.cscout_run.specs.declared.preparing.Ready.{Ready}
+use Rattle.cscout_run.proofs.OverLemmas.{shows, stop_told, tokens-ok, tokens-stop}
 use Rattle.cscout_run.proofs.units.tokens_over.Goals as goal
 
 pub returns-in-Ok-clause-answer : goal.returns-in-Ok-clause-answer
@@ -15,3 +16,11 @@ returns-in-Err-clause-answer g c =
     let bounds = c.if-not-has_unit.ensures in
     tokens-stop (g.F.Files.told c.args.files.now).held c.args.unit c.args.ws.now c.in-Err.fault c.stop_of.result bounds.0 bounds.1 c.stop_of.ensures
     c.in-Err.ensures.answer
+
+pub returns-in-Ok-clause-faults : goal.returns-in-Ok-clause-faults
+returns-in-Ok-clause-faults g c = c.in-Ok.ensures.faults
+
+pub returns-in-Err-clause-faults : goal.returns-in-Err-clause-faults
+returns-in-Err-clause-faults g c =
+    stop_told {X = Ready} (g.F.Files.told c.args.files.now) (g.F.Files.told c.one_text.new.files) c.in-Err.fault c.stop_of.result c.stop_of.ensures
+    c.in-Err.ensures.faults
