@@ -18,7 +18,6 @@ pub mod Changed
 -- What inner functions promise each other.
 pub mod Carrying
 pub mod TokenSearch
-pub mod Trees
 pub mod Marking
 pub mod Joins
 pub mod Firsts
@@ -28,6 +27,7 @@ pub mod Accepting
 pub mod Adding
 pub mod BroughtNumbers
 pub mod AnalysisFields
+pub mod Trees
 pub mod AnalysisAnswers
 -- Words of the crates below, passed on.
 pub mod Below

@@ -7,7 +7,7 @@ use Rattle.eclass_map.specs.ClassTable.{Table, HasParts, class_in, members_of}
 use Rattle.eclass_map.specs.Resized.{Resizes}
 use Rattle.analysis.specs.Below.lexer.Spelling.{is_identifier_text}
 use Rattle.renamed.specs.Renamed.{renaming_of}
-use Rattle.analysis.specs.Changed.{renamed_analysis, renamed_unit_analysis}
+use Rattle.analysis.specs.Changed.{Renaming, renamed_analysis, renamed_unit_analysis}
 use Rattle.include_tree.specs.Below.source_files.Files.{Table as Files}
 use Rattle.ws_file.specs.Workspace.{WorkspaceValue}
 use Rattle.analysis.specs.Analysed.{Analysed, analysed}
@@ -25,7 +25,7 @@ use Rattle.kept_analysis.specs.declared.moves.Moves.{Moves}
 use Rattle.kept_analysis.specs.Following.{IsFollowed, IsReadAsBefore, IsRenamedIn, renamed_by}
 use Rattle.kept_analysis.specs.Edits.{edited_front}
 use Rattle.kept_analysis.specs.Moves.{AreMoves, editing_by, renaming_by}
-use Rattle.kept_analysis.proofs.FollowLemmas.{analysis_same}
+use Rattle.kept_analysis.proofs.FollowLemmas.{analysis_same, renaming_same}
 use Rattle.offences.proofs.MemberListLemmas.{one_list}
 
 -- what holds of a value that a call gave

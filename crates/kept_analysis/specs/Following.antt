@@ -11,7 +11,7 @@ use Rattle.part_respell.specs.Respelled.{respelled}
 use Rattle.offences.specs.First.{IsFirst}
 use Rattle.rename_rules.specs.Offences.{offences_of}
 use Rattle.renamed.specs.Renamed.{renaming_of}
-use Rattle.analysis.specs.Changed.{renamed_analysis, renamed_unit_analysis}
+use Rattle.analysis.specs.Changed.{Renaming, renamed_analysis, renamed_text, renamed_unit_analysis}
 use Rattle.kept_analysis.specs.declared.moves.Moves.{Moves}
 use Rattle.kept_analysis.specs.Edits.{edited_front}
 use Rattle.kept_analysis.specs.Moves.{editing_by, renaming_by}

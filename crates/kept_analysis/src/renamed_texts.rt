@@ -2,7 +2,9 @@
 ghost use Rattle.std.specs.Prelude.{ℕ, ◌≡◌, Some, IfOk, map, option_copied, slice_get};
 ghost use Rattle.std.specs.Option.{option_map};
 ghost use Rattle.include_tree.specs.Below.unit_steps.Texts.{text_of};
+ghost use Rattle.analysis.specs.Analysis.{UnitAnalysis};
 ghost use Rattle.analysis.specs.Changed.{renamed_event, renamed_text, renamed_token, renamed_unit_analysis};
+ghost use Rattle.kept_analysis.specs.Following.{IsReadAsBefore};
 ghost use Rattle.kept_analysis.specs.Moves.{move_by, renaming_by};
 
 use crate::moves::Moves;

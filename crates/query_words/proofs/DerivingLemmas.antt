@@ -1,5 +1,5 @@
 -- What the reader gives, by the grammar: what it reads is derived, where it stops some query goes on.
-use Rattle.std.proofs.Common.{◌≡◌, ℕ, zero, suc, ◌+◌, Bool, true, Option, Some, None, List, [], ◌∷◌, ◌++◌, Result, Ok, Err, length, drop, inl, inr, refl, sym, ap, ◌∙◌, subst, arith, append-nil, append_assoc, drop-drop}
+use Rattle.std.proofs.Common.{◌≡◌, ℕ, zero, suc, ◌+◌, true, Option, Some, None, List, [], ◌∷◌, ◌++◌, Result, Ok, Err, length, drop, inl, inr, refl, sym, ap, ◌∙◌, subst, arith, append-nil, append_assoc, drop-drop}
 use Rattle.std.specs.Prelude.{codes}
 use Rattle.std.specs.List.{list_all, take_while}
 use Rattle.std.specs.Str.{bytes_eq}
@@ -10,7 +10,6 @@ use Rattle.query_words.specs.declared.attributes.Attribute.{Attribute}
 use Rattle.query_words.specs.declared.attributes.Attribute.TheVariants.{Cut}
 use Rattle.query_words.specs.declared.faults.QueryFault.{QueryFault}
 use Rattle.query_words.specs.declared.faults.QueryFault.TheVariants.{Bad, Deep}
-use Rattle.query_words.specs.declared.walk.Rule.{Rule}
 use Rattle.query_words.specs.declared.walk.Rule.TheVariants.{Whole, Denied}
 use Rattle.query_words.specs.Attributes.{attribute_of}
 use Rattle.query_words.specs.Grammar.{Derives, Level, Alternatives, Conjunction, Operand, one_conjunction, either_of, one_operand, both_of, not_of, in_parentheses, an_attribute, a_pattern}

@@ -1,24 +1,23 @@
 -- What the reader gives is told by the bytes before a place, where another text begins with the same.
-use Rattle.std.proofs.Common.{◌≡◌, ℕ, zero, suc, ◌+◌, ◌-◌, ◌<◌, ◌≤◌, Bool, true, false, Option, Some, None, List, [], ◌∷◌, ◌++◌, Result, Ok, Err, length, take, drop, inl, inr, refl, sym, ap, ◌∙◌, subst, arith, length-append, length-drop}
-use Rattle.std.specs.Prelude.{◌&&◌, codes, if◌then◌else◌}
+use Rattle.std.proofs.Common.{◌≡◌, ℕ, zero, suc, ◌+◌, ◌-◌, ◌<◌, ◌≤◌, true, false, Option, Some, None, List, [], ◌∷◌, Result, Ok, Err, length, take, drop, inl, inr, refl, sym, ap, ◌∙◌, subst, arith, length-drop}
+use Rattle.std.specs.Prelude.{codes}
 use Rattle.std.specs.List.{take_while}
 use Rattle.std.specs.Str.{bytes_eq}
-use Rattle.std.proofs.lemmas.Bool.{and_left, and_parts, and_right, cases_Bool, cases_lt}
+use Rattle.std.proofs.lemmas.Bool.{and_left, and_parts, cases_Bool}
 use Rattle.cs_base.specs.Answer.{result_then}
 use Rattle.cs_base.proofs.FileMapLemmas.{bytes_eq-equal}
 use Rattle.query_words.specs.declared.attributes.Attribute.{Attribute}
 use Rattle.query_words.specs.declared.faults.QueryFault.{QueryFault}
 use Rattle.query_words.specs.declared.faults.QueryFault.TheVariants.{Bad, Deep}
-use Rattle.query_words.specs.declared.walk.Rule.{Rule}
 use Rattle.query_words.specs.declared.walk.Rule.TheVariants.{Whole, Denied}
 use Rattle.query_words.specs.Attributes.{attribute_of}
-use Rattle.query_words.specs.Grammar.{Level, Alternatives, Conjunction, Operand, word_end}
+use Rattle.query_words.specs.Grammar.{Level, Conjunction, Operand, word_end}
 use Rattle.query_words.specs.Queries.{Query, Either, Both}
 use Rattle.query_words.specs.Reading.{Part, Read, read, ampersand, bar, closing, equals, exclamation, opening, atom, attribute_read, begins_name, both, chain, closed, either, enclosed, is_byte, is_of_pattern, is_small, negation, pattern_read, word_of}
 use Rattle.query_words.specs.Reading.{denied as deny}
 use Rattle.query_words.proofs.AtomLemmas.{atom_is, atom_named}
-use Rattle.query_words.proofs.DerivingLemmas.{Means, operands, conjunctions, alternatives}
-use Rattle.query_words.proofs.PlaceLemmas.{byte_within, is_byte_end, same_byte, same_drop, same_while}
+use Rattle.query_words.proofs.DerivingLemmas.{Means, operands, conjunctions}
+use Rattle.query_words.proofs.PlaceLemmas.{byte_within, same_byte, same_drop, same_while}
 use Rattle.query_words.proofs.ReadingLemmas.{chain_ends, enclosed_not, enclosed_whole, negation_atom, negation_not, negation_open}
 use Rattle.query_words.proofs.WalkLemmas.{both_first, chain_fault, chain_there, either_first, enclosed_none}
 

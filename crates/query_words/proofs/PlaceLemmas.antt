@@ -1,10 +1,10 @@
 -- Texts from a place on, and what stands between two places.
-use Rattle.std.proofs.Common.{◌≡◌, ℕ, zero, suc, ◌+◌, ◌-◌, ◌<◌, ◌≤◌, Bool, true, false, cond, Option, Some, None, List, [], ◌∷◌, ◌++◌, length, take, drop, inl, inr, refl, sym, ap, ◌∙◌, subst, arith, drop-drop, append-nil, append_assoc, length-append, length-drop}
-use Rattle.std.specs.Prelude.{◌==◌, not, ◌&&◌, slice_get}
+use Rattle.std.proofs.Common.{◌≡◌, ℕ, zero, suc, ◌+◌, ◌<◌, ◌≤◌, Bool, true, false, Option, List, [], ◌∷◌, ◌++◌, length, take, drop, inl, inr, refl, sym, ap, ◌∙◌, arith, drop-drop, append_assoc, length-append, length-drop}
+use Rattle.std.specs.Prelude.{◌==◌, not, slice_get}
 use Rattle.std.specs.Option.{option_map_or}
 use Rattle.std.specs.List.{list_all, take_while}
-use Rattle.std.proofs.Math.Seq.{drop-append_seam, drop-nil, take-append_seam}
-use Rattle.std.proofs.lemmas.List.{drop-take, drop_all}
+use Rattle.std.proofs.Math.Seq.{drop-append_seam}
+use Rattle.std.proofs.lemmas.List.{drop-take}
 use Rattle.std.proofs.lemmas.List.Sums.{take_while-cons}
 use Rattle.std.proofs.lemmas.Bool.{and_parts, cases_Bool, cond-false, cond-true, eqb-true, not-true, true≢false}
 use Rattle.query_words.specs.Reading.{is_byte}

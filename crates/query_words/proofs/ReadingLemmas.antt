@@ -1,19 +1,18 @@
 -- What is derived is read, to what it means.
-use Rattle.std.proofs.Common.{◌≡◌, ℕ, zero, suc, ◌+◌, ◌-◌, ◌≤◌, Bool, true, false, Option, Some, None, List, [], ◌∷◌, ◌++◌, Result, Ok, Err, length, drop, inl, inr, refl, sym, ap, ◌∙◌, subst, arith, append-nil, append_assoc, drop-drop, length-append, length-drop}
+use Rattle.std.proofs.Common.{◌≡◌, ℕ, zero, suc, ◌+◌, ◌-◌, ◌≤◌, Bool, true, false, Option, Some, None, List, [], ◌∷◌, ◌++◌, Ok, length, drop, inl, inr, refl, sym, ap, ◌∙◌, arith, append-nil, append_assoc, length-append, length-drop}
 use Rattle.std.specs.Prelude.{◌==◌, ◌&&◌, not, codes, if◌then◌else◌}
-use Rattle.std.specs.List.{list_all, take_while}
+use Rattle.std.specs.List.{list_all}
 use Rattle.std.specs.Str.{bytes_eq}
 use Rattle.std.proofs.lemmas.Bool.{and_left, and_parts, cases_Bool, eq-eqb, eqb-true, not-true}
 use Rattle.cs_base.specs.Answer.{result_then}
 use Rattle.cs_base.proofs.FileMapLemmas.{bytes_eq-equal}
 use Rattle.query_words.specs.declared.attributes.Attribute.{Attribute}
 use Rattle.query_words.specs.declared.attributes.Attribute.TheVariants.{Macro, Function, Object, Typedef, Parameter, Enumerator, Tag, Member, Label, External, ReadOnly, Unused, Cut}
-use Rattle.query_words.specs.declared.faults.QueryFault.{QueryFault}
 use Rattle.query_words.specs.declared.walk.Rule.TheVariants.{Whole, Denied}
 use Rattle.query_words.specs.Attributes.{attribute_of}
 use Rattle.query_words.specs.Grammar.{Derives, Level, Alternatives, Conjunction, Operand, one_conjunction, either_of, one_operand, both_of, not_of, in_parentheses, an_attribute, a_pattern}
 use Rattle.query_words.specs.Queries.{Query, Either, Both, Not, Is, Named}
-use Rattle.query_words.specs.Reading.{Inner, Part, Read, read, ampersand, bar, closing, equals, exclamation, opening, atom, attribute_read, begins_name, both, chain, closed, depth_limit, either, enclosed, is_byte, is_of_pattern, is_small, negation, parsed, pattern_read, word_of}
+use Rattle.query_words.specs.Reading.{Inner, Part, Read, read, ampersand, bar, closing, exclamation, opening, atom, begins_name, both, chain, closed, depth_limit, either, enclosed, is_byte, is_of_pattern, is_small, negation, parsed, pattern_read, word_of}
 use Rattle.query_words.specs.Reading.{denied as deny}
 use Rattle.query_words.proofs.AtomLemmas.{atom_is, atom_named}
 use Rattle.query_words.proofs.PlaceLemmas.{behind, is_byte_at, is_byte_end, stops, take_while_stops}

@@ -2,7 +2,7 @@
 --     query = and ("|" and)*        and = not ("&" not)*        not = "!" not | "(" query ")" | atom
 --     atom = "name=" pattern | attribute
 -- How a word is read stands in `Reading`; nothing here speaks of reading, places or signs that follow.
-use Rattle.std.specs.Prelude.{ℕ, suc, ◌≡◌, ◌+◌, ◌<◌, ◌≤◌, Bool, true, nat_lt, Some, Result, Ok, Err, List, [], ◌∷◌, ◌++◌, length, take, drop, codes}
+use Rattle.std.specs.Prelude.{ℕ, suc, ◌≡◌, ◌+◌, ◌<◌, ◌≤◌, Bool, true, Some, Result, Ok, Err, List, [], ◌∷◌, ◌++◌, length, take, drop, codes}
 use Rattle.std.specs.List.{list_all}
 use Rattle.query_words.specs.declared.attributes.Attribute.{Attribute}
 use Rattle.query_words.specs.declared.faults.QueryFault.{QueryFault}
@@ -44,9 +44,10 @@ word_end text n = n + length (word_of (drop n text))
 abbrev pub IsNone : List ℕ → Type 0
 IsNone text = (q : Query) → Derives Alternatives depth_limit text q → ⊥
 
--- What a word is by the grammar alone. A query: what derives it. Bad at a byte: some query goes on from the bytes before it, and none from
--- those up to and with the first one from there on that is no lower-case letter, if there is one. Too deep at a byte: some query goes on
--- from the bytes before it, none from these and the byte, but one does where one more `!` or `(` may be open.
+-- What a word is by the grammar alone. A query: what derives it. Bad at a byte: some query goes on from the bytes before
+-- it, and none from those up to and with the first one from there on that is no lower-case letter, if there is one. Too
+-- deep at a byte: some query goes on from the bytes before it, none from these and the byte, but one does where one more
+-- `!` or `(` may be open.
 abbrev pub IsRead : List ℕ → Result Query QueryFault → Type 0
 IsRead text (Ok q) = Derives Alternatives depth_limit text q
 IsRead text (Err (Bad n)) =

@@ -30,8 +30,8 @@ use Rattle.edited_unit_laws.proofs.ListLemmas.{In, cons_nil, flat_nil, any_at}
 use Rattle.rename_meaning.proofs.NoneLemmas.{NoneStand, none_stand, holder}
 use Rattle.rename_meaning.proofs.OccurringLemmas.{name_like, parted_one, like_spelled}
 use Rattle.edited_unit_laws.proofs.TracedLemmas.{AreChained}
-use Rattle.c99_grammar.specs.Dialects.{dialect}
-use Rattle.c99_grammar.specs.Standard.{grammar}
+use Rattle.c99_grammar.specs.Dialects.{edition}
+use Rattle.c99_grammar.specs.Standard.{iso}
 use Rattle.c99_read.specs.State.{base_at, is_identifier}
 use Rattle.rename_meaning.proofs.LinkedNameLemmas.{named_token}
 use Rattle.rename_meaning.proofs.NamedLemmas.{NameAt, OtherAt, alike_from, whole, old_identifier, old_at, new_at, look}

@@ -15,7 +15,8 @@ use Rattle.edited_unit_laws.specs.Analyses.{ReadsAlike}
 use Rattle.analysis.specs.Analysed.{Analysed}
 use Rattle.analysis.specs.Analysis.{UnitAnalysis}
 use Rattle.analysis.specs.Trees.{HasTree}
-use Rattle.renamed.specs.Renamed.{renamed_text, renaming_of}
+use Rattle.analysis.specs.Changed.{renamed_text}
+use Rattle.renamed.specs.Renamed.{renaming_of}
 use Rattle.rename_meaning.specs.Allowed.{IsAllowed}
 use Rattle.rename_meaning.specs.KeptTokens.{Spells}
 use Rattle.rename_meaning.specs.Renamings.{KeepsUnedited}

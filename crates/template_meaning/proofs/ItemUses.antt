@@ -14,7 +14,7 @@ use Rattle.c99_tree.specs.declared.production.Production.TheVariants.{Main, Prim
 use Rattle.c99_tree.specs.contracts.production.ProductionPartialEq.TheImpl.{ghosts}
 use Rattle.c99_grammar.specs.declared.classes.Class.TheVariants.{Identifier}
 use Rattle.c99_grammar.specs.Items.{tok, plain}
-use Rattle.c99_grammar.specs.Standard.{grammar}
+use Rattle.c99_grammar.specs.Standard.{iso}
 use Rattle.c_types.specs.declared.entity.EntityKind.{EntityKind}
 use Rattle.c_types.specs.declared.entity.EntityKind.TheVariants as entity
 use Rattle.c_types.specs.Declarations.{spelling_at}
@@ -145,7 +145,7 @@ module _ (toks : List Token) (names : List Name) (bare : List ℕ) (s : Edition)
   none_used l k (token i rest) h = (λ e. absurd (false≢true (sym (h k (omega arith)) ∙ e)), none_used l (k + 1) rest (λ j less. h j (omega (arith, less))))
   none_used l k (node m first under rest) h = none_used l (k + 1) rest (λ j less. h j (omega (arith, less)))
 
-  lone_child : (m : Label) (under : Forest) → IsOfAlternative (grammar s) m under → m.production ≡ Primary → (m.alternative == 1) ≡ true → (i : ℕ) × (under ≡ token i none)
+  lone_child : (m : Label) (under : Forest) → IsOfAlternative (iso s) m under → m.production ≡ Primary → (m.alternative == 1) ≡ true → (i : ℕ) × (under ≡ token i none)
   lone_child m under x named one_ =
       let here : children under ≡ a_token ∷ [] = alternative_is (iso s) m under x Primary 0 (plain (tok Identifier)) named (omega (arith, eqb-true m.alternative 1 one_)) refl in
       let first = token_child under [] here in

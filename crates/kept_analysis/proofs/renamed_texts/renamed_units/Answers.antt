@@ -1,7 +1,7 @@
 use Rattle.std.proofs.Common.{◌≡◌, suc, List, [], ◌∷◌, ◌++◌, map, slice_get, ap, sym, ◌∙◌}
 use Rattle.std.proofs.lemmas.List.{map-append}
 use Rattle.analysis.specs.Analysis.{UnitAnalysis}
-use Rattle.renamed.specs.Renamed.{renamed_unit_analysis}
+use Rattle.analysis.specs.Changed.{renamed_unit_analysis}
 use Rattle.kept_analysis.specs.Moves.{renaming_by}
 use Rattle.kept_analysis.proofs.renamed_texts.renamed_units.Goals as goal
 

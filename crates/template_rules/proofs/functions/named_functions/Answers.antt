@@ -1,6 +1,6 @@
-use Rattle.std.proofs.Common.{◌≡◌, ℕ, ◌+◌, ◌-◌, length, arith, subst}
-use Rattle.offences.specs.Class.{class_over}
-use Rattle.template_rules.specs.Units.{IsUnitAt}
+use Rattle.std.proofs.Common.{◌≡◌, ℕ, ◌+◌, ◌-◌, length, arith, subst, sym}
+use Rattle.offences.specs.Class.{ClassValue, class_over}
+use Rattle.template_rules.specs.Units.{AreUnits, IsUnitAt}
 use Rattle.template_rules.proofs.FunctionLemmas.{before_none, before_next, before_all}
 use Rattle.template_rules.proofs.functions.named_functions.Goals as goal
 
