@@ -59,16 +59,27 @@ pub reads_then : {X : Type 0} (a b c : FilesTold) (result : Result X Stop) → R
     → ReadsOnly a c (reads_of result)
 reads_then a b c result first then = subst (λ (x : FilesTold). ReadsOnly x c (reads_of result)) first.told then
 
--- an early end behind a fault of the workspace
-fault_reads : {X : Type 0} (f : AnalyseFault) → core.reads_of {X = X} (Err f) ≡ stop_reads (stop_of f)
-fault_reads (fault.WorkspaceFault unit place cause) = refl
-fault_reads (fault.ReadFault path) = refl
-fault_reads fault.Memory = refl
+-- want of memory, where none of them failed
+pub memory-answers : (o : Option FileMap) (IsOne : FileMap → Answer → Type 0) (result : Result Ready Stop) → IsErrAnd result (λ e. e ≡ stop.Memory)
+    → IfSome o (λ fs. Answers (IsOne fs) result)
+memory-answers o IsOne result same =
+    if_told o (λ fs. Answers (IsOne fs) result) (λ fs. handed_on (IsOne fs) stop.Memory result same (λ ws. tt))
 
-pub stop_told : {X : Type 0} (a b : FilesTold) (f : AnalyseFault) (end : Stop) → end ≡ stop_of f → ReadsOnly a b (core.reads_of {X = X} (Err f))
+pub memory-reads : (a b : FilesTold) (result : Result Ready Stop) → IsErrAnd result (λ e. e ≡ stop.Memory) → ReadsOnly a b NoneFailed
+    → ReadsOnly a b (reads_of result)
+memory-reads a b result same reads =
+    handed_told a b stop.Memory result same record { held = reads.held; grows = reads.grows; apart = reads.apart; told = reads.grows }
+
+-- an early end behind a fault of the workspace
+fault_reads : (X : Type 0) (f : AnalyseFault) → core.reads_of {X = X} (Err f) ≡ stop_reads (stop_of f)
+fault_reads X (fault.WorkspaceFault unit place cause) = refl
+fault_reads X (fault.ReadFault path) = refl
+fault_reads X fault.Memory = refl
+
+pub stop_told : (X : Type 0) (a b : FilesTold) (f : AnalyseFault) (end : Stop) → end ≡ stop_of f → ReadsOnly a b (core.reads_of {X = X} (Err f))
     → ReadsOnly a b (stop_reads end)
-stop_told {X} a b f end is reads =
-    subst (λ (e : Stop). ReadsOnly a b (stop_reads e)) (sym is) (subst (λ (e : ReadEnd). ReadsOnly a b e) (fault_reads {X = X} f) reads)
+stop_told X a b f end is reads =
+    subst (λ (e : Stop). ReadsOnly a b (stop_reads e)) (sym is) (subst (λ (e : ReadEnd). ReadsOnly a b e) (fault_reads X f) reads)
 
 -- what is told over an analysis tells of no read
 pub tells-reads : {X : Type 0} (answer : X → Answer) (IsOne : Answer → Type 0) (result : Result X Stop) (a b : FilesTold)

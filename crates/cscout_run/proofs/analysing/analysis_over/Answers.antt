@@ -17,5 +17,5 @@ returns-in-Err-clause-answer g c =
 
 pub returns-in-Err-clause-faults : goal.returns-in-Err-clause-faults
 returns-in-Err-clause-faults g c =
-    stop_told {X = AnalysisValue} (g.F.Files.told c.args.files.now) (g.F.Files.told c.analyse.new.files) c.in-Err.fault c.stop_of.result c.stop_of.ensures
+    stop_told AnalysisValue (g.F.Files.told c.args.files.now) (g.F.Files.told c.analyse.new.files) c.in-Err.fault c.stop_of.result c.stop_of.ensures
     c.in-Err.ensures.faults

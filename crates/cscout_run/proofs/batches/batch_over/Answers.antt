@@ -3,6 +3,7 @@ use Rattle.cs_base.specs.Outside.{FileMap, FilesTold}
 use Rattle.batch_run.specs.Line.{LineValue}
 use Rattle.batch_run.specs.declared.running.Batched.{Batched}
 use Rattle.analysis.specs.declared.analyse_fault.AnalyseFault.{AnalyseFault}
+use Rattle.cscout_run.specs.declared.preparing.Ready.{Ready}
 use Rattle.cscout_run.proofs.BatchLemmas.{found, lines-stop, lines_run, ready-run, run-stop}
 use Rattle.cscout_run.proofs.OverLemmas.{handed_told, reads_then, stop_told}
 use Rattle.cscout_run.proofs.RunLemmas.{if_told-map}
@@ -60,5 +61,5 @@ returns-clause-faults g c =
     let a : FilesTold = g.F.Files.told c.args.files.now in
     let b : FilesTold = g.F.Files.told c.read_lines.new.files in
     let d : FilesTold = g.F.Files.told c.run_batch.new.files in
-    reads_then a b d (Err c.stop_of.result) c.in_ok-lines.ensures.faults
-    (stop_told {X = Batched} b d c.in-Err.fault c.stop_of.result c.stop_of.ensures c.in-Err.ensures.faults)
+    reads_then {X = Ready} a b d (Err c.stop_of.result) c.in_ok-lines.ensures.faults
+    (stop_told Batched b d c.in-Err.fault c.stop_of.result c.stop_of.ensures c.in-Err.ensures.faults)

@@ -14,5 +14,6 @@ pub returns-clause-keeps : goal.returns-clause-keeps
 returns-clause-keeps c =
     let path : c.path_text.result.now ≡ normal_path_of c.args.q.now.path.now =
     c.path_text.ensures ∙ (c.in_ok-path.ensures ∙ ap normal_path_of c.as_bytes.ensures.value) in
-    let order : c.in_ok-order.order.items ≡ order_of c.args.q.now.order.now = c.in_ok-order.ensures ∙ ap order_of c.as_bytes-2.ensures.value in
+    let order : c.deref.result.now ≡ order_of c.args.q.now.order.now =
+    c.deref.ensures.value ∙ (c.in_ok-order.ensures ∙ ap order_of c.as_bytes-2.ensures.value) in
     rw (← path, ← order) c.plan_template.ensures.meaning

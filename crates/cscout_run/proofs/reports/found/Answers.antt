@@ -1,5 +1,5 @@
 use Rattle.query_words.specs.Reading.{parsed}
-use Rattle.cscout_run.specs.Shapes.{shown}
+use Rattle.cscout_run.specs.Shapes.{Answer}
 use Rattle.cscout_run.proofs.FindLemmas.{find_tells, found_text}
 use Rattle.cscout_run.proofs.reports.found.Goals as goal
 
@@ -11,4 +11,4 @@ returns-in-Ok c =
 pub returns-in-Err : goal.returns-in-Err
 returns-in-Err c =
     let refuses = rw c.as_bytes.ensures.value at c.in-Err.ensures.refused in
-    rw c.find_stop.ensures (find_tells (λ text. shown text.items) c.args.a.now.value c.args.query.now c.in-Err.refusal refuses)
+    rw c.find_stop.ensures (find_tells (λ (a : Answer). a) c.args.a.now.value c.args.query.now c.in-Err.refusal refuses)
