@@ -1,0 +1,9 @@
+pub mod NumberLemmas
+pub mod TestLemmas
+pub mod ReachedLemmas
+pub mod MentionLemmas
+pub mod EdgeLemmas
+pub mod DefiningLemmas
+pub mod HeldLemmas
+pub mod JudgingLemmas
+pub mod TrimmedLemmas
