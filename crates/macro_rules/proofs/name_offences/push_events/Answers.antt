@@ -1,0 +1,19 @@
+use Rattle.std.proofs.Common.{arith}
+use Rattle.std.specs.List.{flat_map}
+use Rattle.std.proofs.lemmas.List.{take_all}
+use Rattle.analysis.specs.Analysis.{UnitAnalysis}
+use Rattle.analysis.proofs.OneUnitLemmas.{unit_of_text}
+use Rattle.macro_rules.specs.Offences.{indirect_offences}
+use Rattle.macro_rules.proofs.WalkLemmas.{units_next}
+use Rattle.macro_rules.proofs.name_offences.push_events.Goals as goal
+
+pub loop-unit-preserved : goal.loop-unit-preserved
+loop-unit-preserved c =
+    let u = unit_of_text c.args.a.now.value.units c.loop-unit.unit c.text.result.now c.text.ensures in
+    units_next (λ (u : UnitAnalysis). flat_map (indirect_offences c.args.macros.now) u.text.events) c.args.a.now.value.units c.loop-unit.unit u.0 c.args.out.now.items c.loop-unit.out.items c.push_all_indirect.new.out.items u.1 c.loop-unit.invariant
+    (rw (u.2, ← c.events.ensures) c.in_ok-push_all_indirect.ensures)
+
+pub returns : goal.returns
+returns c =
+    let all = take_all c.loop-unit.unit c.args.a.now.value.units (omega (arith, c.units-unit-end.ensures)) in
+    rw (← all) c.loop-unit.invariant

@@ -1,0 +1,20 @@
+use Rattle.std.proofs.Common.{[], length, ap, arith}
+use Rattle.std.specs.List.{flat_map}
+use Rattle.std.proofs.lemmas.List.{take_all}
+use Rattle.analysis.specs.Analysed.{Analysed}
+use Rattle.analysis.specs.Analysis.{UnitAnalysis}
+use Rattle.analysis.proofs.OneUnitLemmas.{unit_of_text}
+use Rattle.macro_rules.specs.Macros.{defined_place}
+use Rattle.macro_rules.proofs.WalkLemmas.{units_next}
+use Rattle.macro_rules.proofs.replacements.macro_places.Goals as goal
+
+pub loop-unit-preserved : goal.loop-unit-preserved
+loop-unit-preserved c =
+    let u = unit_of_text c.args.class.now.analysis.value.units c.loop-unit.unit c.text.result.now (rw c.analysis-a.ensures at c.text.ensures) in
+    units_next (λ (u : UnitAnalysis). flat_map (defined_place c.args.class.now.members) u.text.events) c.args.class.now.analysis.value.units c.loop-unit.unit u.0 [] c.loop-unit.out c.push_all_defined.new.out u.1 c.loop-unit.invariant
+    (rw (u.2, ← c.events.ensures) c.in_ok-push_all_defined.ensures)
+
+pub returns : goal.returns
+returns c =
+    let all = take_all c.loop-unit.unit c.args.class.now.analysis.value.units (omega (arith, ap (λ (x : Analysed). length x.value.units) c.analysis-a.ensures, c.units-unit-end.ensures)) in
+    rw (← all) c.loop-unit.invariant
