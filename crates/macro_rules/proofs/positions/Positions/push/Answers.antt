@@ -9,8 +9,8 @@ more c = rw c.in_ok-reserve.ensures.items at (rw c.unwrap.ensures at c.push.ensu
 pub invariant_of-self-2 : goal.invariant_of-self-2
 invariant_of-self-2 c = (
   rw (more c)
-  (set_push c.self.inside.all.items c.args.p (has_position c.self.inside.set) (has_position c.insert.new.self) c.self.invariant.0
-  (λ q. c.in_ok-insert.ensures.updates.0 (q.file, q.at))),
+      (set_push c.self.inside.all.items c.args.p (has_position c.self.inside.set) (has_position c.insert.new.self) c.self.invariant.0
+      (λ q. c.in_ok-insert.ensures.updates.0 (q.file, q.at))),
   rw (more c, c.mark.ensures) (met_push c.self.inside.all.items c.args.p c.self.inside.slots c.self.invariant.1),
 )
 
