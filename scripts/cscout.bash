@@ -12,13 +12,14 @@ _cscout() {
       mapfile -t COMPREPLY < <(compgen -W "$words" -- "$word"; compgen -f -X '!*.cs' -- "$word"; compgen -d -S / -- "$word")
       ;;
     2)
-      words='rename template tokens skipped class unused includes calls find batch'
+      words='rename template macro trim tokens skipped check class unused includes calls find batch'
       [ "${COMP_WORDS[1]}" != generate ] || words=
       mapfile -t COMPREPLY < <(compgen -W "$words" -- "$word")
       ;;
     3)
       case $command in
-        rename | template | class | batch) mapfile -t COMPREPLY < <(compgen -f -- "$word") ;;
+        rename | template | macro | class | batch) mapfile -t COMPREPLY < <(compgen -f -- "$word") ;;
+        trim) mapfile -t COMPREPLY < <(compgen -W stays -- "$word") ;;
         find)
           words='name= macro function object typedef parameter enumerator tag member label external readonly unused cut'
           mapfile -t COMPREPLY < <(compgen -W "$words" -- "$word")

@@ -269,6 +269,21 @@ def hold_odd_words(held):
         held.differs(["odd words"], "something changed")
 
 
+def odd_row(name):
+    """A row with a file of an odd name."""
+    if " " in name:
+        return (name, {f"in/{name}": "int x;\nint y = x;\n", "in/a.c": f'#include "{name}"\nint z = x;\n', "in/w.cs": "ipath .\nfile a.c\n"},
+                "w.cs rename a.c 2 9 w", None)
+    return (name, {f"in/{name}": "int x;\nint y = x;\n", "in/w.cs": f"file {name}\n", "in/b": f"rename {name} 1 5 z\n"}, "w.cs batch b", None)
+
+
+def tell(what, held, commands=("rename", "template", "batch")):
+    """Prints how much was held; the status."""
+    print(f"{what}: " + ", ".join(f"{held.count.get(it, 0)} of {it} ({held.accepted.get(it, 0)} accepted)" for it in commands)
+          + f", {held.patches} diffs by patch and by git apply, {held.count.get('rows', 0)} rows; {held.differing} differ")
+    return 1 if held.differing or not all(held.accepted.get(it) for it in commands) else 0
+
+
 def main():
     tried, program, corpus, seed, count = *sys.argv[1:4], *map(int, sys.argv[4:])
     r = random.Random(seed)
@@ -278,19 +293,13 @@ def main():
         for number, row in enumerate(ROWS):
             hold_row(held, number, row)
         for number, name in enumerate(ODD_NAMES):
-            hold_row(held, f"name{number}", (name, {f"in/{name}": "int x;\nint y = x;\n", "in/w.cs": f"file {name}\n", "in/b": f"rename {name} 1 5 z\n"},
-                                             "w.cs batch b", None) if " " not in name else
-                     (name, {f"in/{name}": "int x;\nint y = x;\n", "in/a.c": f'#include "{name}"\nint z = x;\n', "in/w.cs": "ipath .\nfile a.c\n"},
-                      "w.cs rename a.c 2 9 w", None))
+            hold_row(held, f"name{number}", odd_row(name))
         hold_odd_words(held)
         hold_random(held, r, count - count // 3)
         hold_corpus(held, r, count // 3, corpus)
     finally:
         shutil.rmtree(room)
-    commands = ("rename", "template", "batch")
-    print("dry runs: " + ", ".join(f"{held.count.get(it, 0)} of {it} ({held.accepted.get(it, 0)} accepted)" for it in commands)
-          + f", {held.patches} diffs by patch and by git apply, {held.count.get('rows', 0)} rows; {held.differing} differ")
-    return 1 if held.differing or not all(held.accepted.get(it) for it in commands) else 0
+    return tell("dry runs", held)
 
 
 if __name__ == "__main__":

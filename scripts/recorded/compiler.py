@@ -7,6 +7,12 @@ import subprocess
 from options import Odd
 from record import Refused
 
+# What a condition asks the compiler of attributes and built-ins, and the operands of such questions.
+ASKED = ("__has_attribute", "__has_builtin", "__has_c_attribute", "__has_cpp_attribute")
+OPERAND = re.compile(rb"(?i)has_(?:builtin|(?:c_|cpp_)?attribute)\s*\(\s*(\w+)\s*\)")
+# A condition, and what asks for a header in it: the word, and the name as it is written.
+CONDITION = re.compile(rb"^[ \t]*#[ \t]*(?:el)?if\b.*__has_include.*$", re.M)
+ASKS_HEADER = re.compile(rb"\b(__has_include(?:_next)?)[ \t]*\([ \t]*(<[^>\n]*>|\"[^\"\n]*\"|)")
 MACHINES = (("__ILP32__", "other"), ("__x86_64__", "x86_64"), ("__aarch64__", "aarch64"), ("__i386__", "i386"))
 
 
@@ -83,7 +89,7 @@ class Compilers:
     """Asks each compiler once for each directory and list of options."""
 
     def __init__(self):
-        self.known, self.folders, self.libraries = {}, {}, {}
+        self.known, self.folders, self.libraries, self.operands, self.answers, self.included = {}, {}, {}, {}, {}, {}
 
     def ask(self, compiler, directory, options):
         if "/" in compiler:
@@ -117,6 +123,76 @@ class Compilers:
         at = [os.path.realpath(os.path.join(directory, folder)) for folder in angle]
         return Answer(quote, angle, {folder for folder, real in zip(angle, at) if real in own}, macros,
                       self._library(compiler, directory, options))
+
+    def affirmed(self, entry):
+        """The define lines that answer what the unit's files ask of attributes and built-ins: the operand is pasted to a name, which
+        has a line where the compiler affirms it."""
+        names = set()
+        for path in self._files(entry):
+            names |= self._asked_in(path)
+        names |= {f"__{name}__" for name in names if not name.startswith("_")} | {name.strip("_") for name in names} - {""}
+        return self._affirmed(entry, frozenset(names))
+
+    def headers_asked(self, entry):
+        """The files of the unit in which a condition asks for a header, and what the compiler answers: True or False where that is
+        the same for all that are asked for, and else None."""
+        asking = {path: self._text_of(path)[1] for path in self._files(entry)}
+        asking = {path: asked for path, asked in asking.items() if asked}
+        answers = {self._is_header(entry, path, word, name) for path, asked in asking.items() for word, name in asked}
+        return list(asking), answers.pop() if len(answers) == 1 else None
+
+    def _is_header(self, entry, path, word, name):
+        """None where the name is not written, or another directory is asked than those of any file."""
+        if not name or word != "__has_include":
+            return None
+        if name.startswith('"') and os.path.isfile(os.path.join(os.path.dirname(path), name[1:-1])):
+            return True
+        key = entry.compiler, entry.directory, tuple(entry.options.asking), name
+        if key not in self.answers:
+            compiler = os.path.join(entry.directory, entry.compiler) if "/" in entry.compiler else entry.compiler
+            said = _run([compiler, *entry.options.asking, "-w", "-E", "-P", "-x", "c", "-"], entry.directory, f"#if __has_include({name})\nthere\n#endif\n")
+            self.answers[key] = "there" in said.stdout.split()
+        return self.answers[key]
+
+    def _files(self, entry):
+        """The unit's file and all that it includes, as the compiler names them."""
+        if entry.number not in self.included:
+            said = _run(entry.compiling(["-M", "-MT", "x", "-w"]), entry.directory).stdout
+            self.included[entry.number] = [os.path.join(entry.directory, path) for path in said.replace("\\\n", " ").partition(":")[2].split()]
+        return self.included[entry.number]
+
+    def _asked_in(self, path):
+        return self._text_of(path)[0]
+
+    def _text_of(self, path):
+        """The operands of a file, and the headers for which its conditions ask."""
+        if path not in self.operands:
+            try:
+                with open(path, "rb") as file:
+                    text = file.read()
+                asked = {(word.decode(), os.fsdecode(name)) for line in CONDITION.findall(text.replace(b"\\\n", b""))
+                         for word, name in ASKS_HEADER.findall(line)}
+                self.operands[path] = {name.decode() for name in OPERAND.findall(text)}, asked
+            except OSError:
+                self.operands[path] = set(), set()
+        return self.operands[path]
+
+    def _affirmed(self, entry, names):
+        key = entry.compiler, entry.directory, tuple(entry.options.asking), names
+        if key not in self.answers:
+            text = "".join(f"#ifdef {word}\nthere {word[6:]}\n#endif\n" for word in ASKED)
+            text += "".join(f"yes {word[6:]}_{name} {word}({name})\n" for word in ASKED for name in sorted(names))
+            compiler = os.path.join(entry.directory, entry.compiler) if "/" in entry.compiler else entry.compiler
+            said = _run([compiler, *entry.options.asking, "-w", "-E", "-P", "-x", "c", "-"], entry.directory, text)
+            lines = []
+            for line in said.stdout.splitlines():
+                word, name, value = (line.split() + ["", "", ""])[:3]
+                if word == "there":
+                    lines += [f"__has_{name}(__name) cscout_{name}(__name)", f"cscout_{name}(__name) cscout_{name}_##__name"]
+                elif word == "yes" and value.isdigit() and int(value):
+                    lines.append(f"cscout_{name} {value}")
+            self.answers[key] = lines
+        return self.answers[key]
 
     def _own(self, compiler, directory):
         """The compiler's own folders, with the headers that it brings itself."""

@@ -9,6 +9,10 @@ from record import Refused
 
 MOST_UNITS = 1024
 MOST_BYTES = 1 << 22
+# Macros that a unit has before its settings, and whose values the program gives.
+FIRST = ("__STDC__", "__STDC_HOSTED__", "__STDC_VERSION__", "__DATE__", "__TIME__", "_Pragma", "__has_include", "__has_include_next")
+# Those of them that ask for a header.
+HEADERS_ASKED = ("__has_include", "__has_include_next")
 # What `__has_builtin` is asked about.
 BUILT_IN = ("__builtin_", "__sync_", "__atomic_")
 # What the settings of a unit may come to before a project line begins them anew; the program takes 2^16 bytes.
@@ -121,6 +125,32 @@ def included_files(entry, answer, root):
     return found
 
 
+def gnu_folders(entry, answer, root):
+    """The include paths of a unit of GNU C, as the compiler has them."""
+    return [list(dict.fromkeys(_folder(root.folder(os.path.join(entry.directory, folder))) for folder in folders))
+            for folders in (answer.quote, answer.angle)]
+
+
+def headers_settings(asks, known):
+    """The settings of the words by which a unit asks for headers, where it does: the answer, or none of them is defined."""
+    if not asks:
+        return {}
+    return {name: (name, None) if known is None else (f"{name}(__cscout_c)", str(int(known))) for name in HEADERS_ASKED}
+
+
+def gnu_settings(entry, answer, affirmed, headers, added):
+    """What the settings of a unit of GNU C come to: all macros of the compiler, the lines that answer what the unit asks, among them
+    those of `headers`, the command's own, and what the caller adds."""
+    result = dict(headers)
+    result.update((name_of(head), tuple(own_parameters(head, body))) for head, body in answer.macros if name_of(head) not in FIRST)
+    for kind, text in [("define", text) for text in affirmed] + entry.options.settings + added:
+        head, body = head_and_body(text)
+        result.pop(name_of(head), None)
+        if kind == "define":
+            result[name_of(head)] = head, body
+    return result
+
+
 def settings_of(entry, answer, kit, standard, added, dropped):
     """What the settings come to: the compiler's macros without what the kit leaves out, the kit's words, the command's
     own, and what the caller adds. Names of the command's that are left out come to `dropped`."""
@@ -158,7 +188,13 @@ def looked_for(paths, workspace):
 
 
 def _define(head, body):
-    return f"define {head} {body}".rstrip(" \t")
+    return f"undefine {head}" if body is None else f"define {head} {body}".rstrip(" \t")
+
+
+def _undefine(head):
+    """The line after which a setting is gone: a word by which a unit asks for headers is again what it was."""
+    name = name_of(head)
+    return f"define {name} {name}" if name in HEADERS_ASKED else f"undefine {name}"
 
 
 class _Heading:
@@ -180,30 +216,31 @@ class _Heading:
 
     @staticmethod
     def _size(settings):
-        return sum(len(head) + len(body) + 10 for head, body in settings.values())
+        return sum(len(head) + len(body or "") + 10 for head, body in settings.values())
 
     def add(self, unit):
         """The lines that lead from the settings in force to the unit's, and its `file` line."""
         gone = [name for name in self.now if name not in unit.settings]
         new = {name: macro for name, macro in unit.settings.items() if self.now.get(name) != macro}
-        cost = sum(len(name) + 10 for name in gone) + self._size(new)
+        cost = sum(2 * len(name) + 10 for name in gone) + self._size(new)
         if self.size + cost > MOST_SETTINGS:
             self.lines += self.start
             self.now, self.size = dict(self.shared), self._size(self.shared)
             gone, new = [], {name: macro for name, macro in unit.settings.items() if self.shared.get(name) != macro}
             cost = self._size(new)
-        self.lines += [f"undefine {name}" for name in gone]
+        self.lines += [_undefine(self.now[name][0]) for name in gone]
         self.lines += [_define(*macro) for macro in new.values()]
         self.lines.append(f"file {unit.path}")
         self.now, self.size = dict(unit.settings), self.size + cost
 
 
 def text_of(units, readonly, standard):
-    """The workspace file: units of one project, one list of include paths and of first includes below one heading, those of one setting
-    beside each other, all in the order in which each first came."""
+    """The units in the order of the workspace file, and its text: units of one project, one list of include paths and of first
+    includes below one heading, those of one setting beside each other, all in the order in which each first came."""
     groups = {}
     for unit in units:
         groups.setdefault((unit.project, unit.places), {}).setdefault(unit.key()[3], []).append(unit)
+    order = []
     lines = ["# made by scripts/import out of a recorded build"] + [f"readonly {prefix}" for prefix in readonly]
     ordered = {}
     for project, places in groups:
@@ -215,4 +252,5 @@ def text_of(units, readonly, standard):
             for unit in together:
                 heading.add(unit)
             lines += heading.lines
-    return "\n".join(lines) + "\n"
+            order += together
+    return order, "\n".join(lines) + "\n"

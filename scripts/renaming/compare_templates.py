@@ -13,6 +13,7 @@ from cscout_ref.analysis import analyse
 from cscout_ref.cli import parse
 from cscout_ref.edits import parse_order
 from cscout_ref.files import HostFiles
+from cscout_ref.macro import plan_macro
 from cscout_ref.model import Refusal
 from cscout_ref.reader import with_deep_stack
 from cscout_ref.template import Template, plan_template
@@ -37,9 +38,20 @@ def functions_of(analysis):
     return found, sorted(others)
 
 
-def chosen(analysis, rng, count):
-    """Places with the number of parameters there: eight of ten are functions with two and more in files that may be edited."""
-    found, others = functions_of(analysis)
+def macros_of(analysis):
+    """The places of names that `define` lines define, with how many parameters each has, and some places of other names."""
+    found = {}
+    for unit in analysis.units:
+        for event in unit.text.events:
+            if event.kind == "Defined" and event.at.file != 0:
+                item = analysis.kept[event.at.file].items[analysis.item_over(event.at)]
+                found.setdefault(event.at, len(item.definition.params))
+    return found, functions_of(analysis)[1]
+
+
+def chosen(analysis, rng, count, macros):
+    """Places with the number of parameters there: eight of ten are names with two and more in files that may be edited."""
+    found, others = (macros_of if macros else functions_of)(analysis)
     rows = sorted(found.items())
     many = [row for row in rows if row[1] > 1 and not analysis.read_only(row[0].file)]
     rest = [row for row in rows if row not in set(many)]
@@ -47,11 +59,11 @@ def chosen(analysis, rng, count):
     for k in range(count):
         roll = rng.random()
         if many and roll < .8:
-            yield "function", many[k % len(many)]
+            yield "macro" if macros else "function", many[k % len(many)]
         elif rest and roll < .95:
-            yield "other function", rng.choice(rest)
+            yield "other macro" if macros else "other function", rng.choice(rest)
         else:
-            yield "no function", (rng.choice(others), 2)
+            yield "other name", (rng.choice(others), 2)
 
 
 def order_for(rng, many):
@@ -80,8 +92,8 @@ def arranged(toks, lists, order):
 class Compared:
     """One workspace, with copies for the workers."""
 
-    def __init__(self, program, name, seed, count, scratch):
-        self.program, self.name, self.seed, self.count = program, name, seed, count
+    def __init__(self, program, name, seed, count, macros, scratch):
+        self.program, self.name, self.seed, self.count, self.macros = program, name, seed, count, macros
         began = time.time()
         self.analysis = analyse(read_workspace(open(f"{name}/w.cs", "rb").read()), HostFiles())
         self.seconds = time.time() - began
@@ -90,23 +102,24 @@ class Compared:
 
     def rows(self):
         rng = random.Random(self.seed)
-        for kind, (pos, many) in chosen(self.analysis, rng, self.count):
+        for kind, (pos, many) in chosen(self.analysis, rng, self.count, self.macros):
             path, line, column = self.analysis.place(pos)
-            yield kind, [f"{self.name}/w.cs", "template", os.fsdecode(path), str(line), str(column), order_for(rng, many)]
+            yield kind, [f"{self.name}/w.cs", "macro" if self.macros else "template", os.fsdecode(path), str(line), str(column), order_for(rng, many)]
 
     def expected(self, words):
-        """What the model answers, and the function and the order where that is accepted."""
+        """What the model answers, and where that is accepted the lists whose items move in units, and the order."""
         arguments = parse([os.fsencode(word) for word in words])[1]
         place, order = (arguments[b"PATH"], arguments[b"LINE"], arguments[b"COL"]), parse_order(os.fsencode(words[-1]))
         try:
-            edits = plan_template(self.analysis, *place, order)
+            edits = (plan_macro if self.macros else plan_template)(self.analysis, *place, order)
         except Refusal as refusal:
             return (1, b"", b"cscout: refused: " + refusal.words + b"\n", {}), None
         out = b"".join(b"edited %s %d\n" % (edit.path, edit.count) for edit in edits)
         files = {edit.path: edit.data for edit in edits if self.copies[0].old.get(edit.path) != edit.data}
-        return (0, out, b"", files), (Template(self.analysis, self.analysis.part_named(*place).cls), order)
+        lists = [] if self.macros else Template(self.analysis, self.analysis.part_named(*place).cls).lists
+        return (0, out, b"", files), (lists, order)
 
-    def looked_at(self, template, order, outcome):
+    def looked_at(self, moving, order, outcome):
         """Sentences on the units of the edited files, by gcc, whose tokens are not the old ones in the new order; and how many."""
         files = {path: data for path, data in outcome[3].items() if data is not None}
         wrong, looked, olds = [], 0, {unit.number: self.tokens.old(unit) for unit in self.analysis.units}
@@ -121,7 +134,7 @@ class Compared:
                 if new is None:
                     wrong.append(f"unit {unit.number}: gcc refuses the edited unit")
                 else:
-                    lists = [one for one in template.lists if one.unit is unit]
+                    lists = [one for one in moving if one.unit is unit]
                     wrong += differing(unit.number, new, arranged([tok.text for tok in unit.text.toks], lists, order))
         finally:
             self.copies[0].take_back()
@@ -169,13 +182,13 @@ def tally(counts):
 
 def main():
     program, corpus = sys.argv[1:3]
-    seed, count = map(int, sys.argv[3:5])
+    seed, count, macros = map(int, sys.argv[3:6])
     os.chdir(corpus)
     gc.disable()  # the model makes many small objects and few cycles
     counts = 0, 0, 0, 0
     with tempfile.TemporaryDirectory() as scratch:
-        for name in sys.argv[5:]:
-            now = Compared(program, name, seed, count, scratch).run()
+        for name in sys.argv[6:]:
+            now = Compared(program, name, seed, count, macros, scratch).run()
             counts = tuple(map(sum, zip(counts, now)))
             gc.collect()
             shutil.rmtree(scratch)

@@ -5,9 +5,9 @@ use Rattle.std.proofs.lemmas.List.{drop_more, drop_all, append-nil}
 use Rattle.cs_base.specs.Token.{Token}
 use Rattle.cs_base.specs.Units.{UnitValue}
 use Rattle.linkage_join.specs.Linkage.{UnitValue as ExternalNames}
-use Rattle.scope_bind.specs.declared.bound.Name.{Name}
+use Rattle.gnu_bind.specs.Below.scope_bind.declared.bound.Name.{Name}
 use Rattle.analysis.specs.Analysis.{UnitAnalysis}
-use Rattle.analysis.specs.Links.{is_external_name, external_names_from, names_of_unit, names_of_units}
+use Rattle.analysis.specs.Links.{is_external_name, external_names_from, names_of_units}
 
 -- ---- the names of one unit
 
@@ -46,16 +46,6 @@ pub names_end : (names : List Name) (toks : List Token) (k : ℕ) (all whole : L
 names_end names toks k all whole past e = sym (append-nil all) ∙ ap (λ v. all ++ v) (sym (ap (external_names_from names k) (drop_all k toks past) ∙ names_nil names k)) ∙ e
 
 -- ---- those of each unit
-
-pub of_units_more : (units : List UnitValue) (parts : List UnitAnalysis) (i : ℕ) (u : UnitValue) (p : UnitAnalysis) (n : ExternalNames) (all now whole : List ExternalNames) → i < length units → i < length parts
-    → u ≡ get_or units i u → p ≡ get_or parts i p → n ≡ names_of_unit u p → now ≡ all ++ n ∷ []
-    → all ++ names_of_units (drop i units) (drop i parts) ≡ whole → now ++ names_of_units (drop (i + 1) units) (drop (i + 1) parts) ≡ whole
-of_units_more units parts i u p n all now whole less also is_u is_p is e rest =
-    let later = names_of_units (drop (i + 1) units) (drop (i + 1) parts) in
-    let front : names_of_units (drop i units) (drop i parts) ≡ names_of_unit u p ∷ later =
-    ap (λ v. names_of_units v (drop i parts)) (drop_more units i u less ∙ ap (λ v. v ∷ drop (i + 1) units) (sym is_u))
-    ∙ ap (λ v. names_of_units (u ∷ drop (i + 1) units) v) (drop_more parts i p also ∙ ap (λ v. v ∷ drop (i + 1) parts) (sym is_p)) in
-    ap (λ v. v ++ later) e ∙ append_assoc all (n ∷ []) later ∙ ap (λ v. all ++ v) (ap (λ v. v ∷ later) is ∙ sym front) ∙ rest
 
 pub none_left : (units : List UnitValue) → names_of_units units [] ≡ []
 none_left [] = refl

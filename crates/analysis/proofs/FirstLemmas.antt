@@ -1,14 +1,14 @@
 -- First occurrences of entities, found from the front on.
-use Rattle.std.proofs.Common.{◌≡◌, ℕ, ◌+◌, ◌<◌, ◌≤◌, true, false, eqb, zero, suc, List, [], ◌∷◌, ◌++◌, length, get_or, drop, set, replicate, refl, sym, ap, ◌∙◌, subst, inl, inr, arith, Option, Some, None}
+use Rattle.std.proofs.Common.{◌≡◌, ℕ, ◌+◌, ◌<◌, ◌≤◌, true, false, eqb, zero, suc, List, [], ◌∷◌, ◌++◌, length, get_or, drop, set, refl, sym, ap, ◌∙◌, subst, inl, inr, arith, Option, Some, None}
 use Rattle.std.specs.Prelude.{slice_get, unwrap_or}
 use Rattle.std.specs.Option.{option_map_or}
 use Rattle.std.proofs.lemmas.Bool.{cases_eq, cases_lt, cond-true, cond-false, eq-eqb, eqb-true, false_from_ne_true}
-use Rattle.std.proofs.lemmas.List.{drop_more, drop_all, get_or-set_same, get_or-set_other, length-set, get_or-replicate, length-replicate}
+use Rattle.std.proofs.lemmas.List.{drop_more, drop_all, get_or-set_same, get_or-set_other, length-set}
 use Rattle.std.proofs.lemmas.Option.{none-some, slice_get-get_or}
 use Rattle.cs_base.specs.Token.{Token}
 use Rattle.linkage_join.specs.Linkage.{link_to}
-use Rattle.scope_bind.specs.declared.bound.Name.{Name}
-use Rattle.scope_bind.specs.Names.{entity_at}
+use Rattle.gnu_bind.specs.Below.scope_bind.declared.bound.Name.{Name}
+use Rattle.gnu_bind.specs.Below.scope_bind.Names.{entity_at}
 use Rattle.analysis.specs.Firsts.{IsFirstOf, TellsFirst, TellFirsts}
 use Rattle.analysis.specs.Joins.{link_of}
 use Rattle.analysis.specs.Links.{is_bound_to, first_occurrence, occurrence_link, occurrence_links}
@@ -41,13 +41,6 @@ tells_more names e k (Some j) here h = let less = h.0 in (omega arith, h.1)
 tells_here : (names : List Name) (e k : ℕ) (o : Option ℕ) → is_bound_to names e k ≡ true → TellsFirst names e k o → TellsFirst names e (k + 1) (Some (unwrap_or o k))
 tells_here names e k None here h = (omega arith, record { bound = here; before = h })
 tells_here names e k (Some j) here h = let less = h.0 in (omega arith, h.1)
-
-pub tell_none : (names : List Name) (n : ℕ) (firsts : List (Option ℕ)) → firsts ≡ replicate n None → TellFirsts names 0 firsts
-tell_none names n firsts e = λ entity less.
-    let within : entity < n = omega (arith, ap length e, length-replicate {A = Option ℕ} n None) in
-    let P : Option ℕ → Type 0 = λ v. TellsFirst names entity 0 v in
-    let told : get_or firsts entity None ≡ None = ap (λ v. get_or v entity None) e ∙ get_or-replicate n entity None None within in
-    subst P (sym told) (λ i below. absurd (omega arith))
 
 pub tell_skip : (names : List Name) (k : ℕ) (firsts : List (Option ℕ)) → entity_at names k ≡ None → TellFirsts names k firsts → TellFirsts names (k + 1) firsts
 tell_skip names k firsts none h = λ e less. tells_more names e k (get_or firsts e None) (bound_none names e k none) (h e less)

@@ -1,5 +1,5 @@
 -- Lists of links that are joined one after another.
-use Rattle.std.proofs.Common.{◌≡◌, ℕ, ◌+◌, ◌<◌, ◌≤◌, true, false, List, [], ◌∷◌, ◌++◌, length, get_or, drop, map, refl, sym, ap, ◌∙◌, subst, append_assoc, cond}
+use Rattle.std.proofs.Common.{◌≡◌, ℕ, ◌+◌, ◌<◌, ◌≤◌, true, List, [], ◌∷◌, ◌++◌, length, get_or, drop, map, refl, sym, ap, ◌∙◌, subst, append_assoc, cond}
 use Rattle.std.specs.Prelude.{filter, OnOk, Result, Ok, Err}
 use Rattle.std.specs.List.{flat_map}
 use Rattle.std.proofs.lemmas.List.{drop_more, drop_all, map-append, append-nil}
@@ -8,7 +8,7 @@ use Rattle.cs_base.specs.declared.tokens.Link.{Link}
 use Rattle.cs_base.specs.Token.{Token}
 use Rattle.eclass_map.specs.ClassTable.{Table, AreLinks, HasParts, added_tokens}
 use Rattle.linkage_join.specs.Linkage.{links_of as external_links}
-use Rattle.scope_bind.specs.Bound.{Bound}
+use Rattle.gnu_bind.specs.Below.scope_bind.Bound.{Bound}
 use Rattle.include_tree.specs.Below.unit_steps.Texts.{UnitTextValue}
 use Rattle.analysis.specs.Analysis.{UnitAnalysis, AnalysisValue}
 use Rattle.analysis.specs.Joins.{Joins, Awaits, alike_pairs}
@@ -19,17 +19,8 @@ use Rattle.analysis.specs.Links.{are_alike, pair_of, occurrence_links, unit_link
 pub joins_none : (t : Table) → Joins [] t t
 joins_none t = record { tokens = refl; parts = λ p. p; links = λ before are. let P : List (Token × Token) → Type 0 = λ v. AreLinks v t in subst P (sym (append-nil before)) are }
 
-alike_none : (l : Link) → are_alike l ≡ false → alike_pairs (l ∷ []) ≡ []
-alike_none l e = ap (λ b. map pair_of (cond b (l ∷ []) [])) e
-
 alike_one : (l : Link) → are_alike l ≡ true → alike_pairs (l ∷ []) ≡ (l.x, l.y) ∷ []
 alike_one l e = ap (λ b. map pair_of (cond b (l ∷ []) [])) e
-
--- what is not alike is left out
-pub joins_skip : (l : Link) (t : Table) → are_alike l ≡ false → Joins (l ∷ []) t t
-joins_skip l t e =
-    let none = joins_none t in
-    record { tokens = refl; parts = λ p. p; links = λ before are. let P : List (Token × Token) → Type 0 = λ v. AreLinks (before ++ v) t in subst P (sym (alike_none l e)) (none.links before are) }
 
 pub joins_one : (l : Link) (old new : Table) → are_alike l ≡ true → added_tokens new ≡ added_tokens old → HasParts new
     → ((before : List (Token × Token)) → AreLinks before old → AreLinks (before ++ (l.x, l.y) ∷ []) new) → Joins (l ∷ []) old new
@@ -51,9 +42,6 @@ joins_then xs ys old mid new first second =
     }
 
 -- ---- a list that is joined from the front on
-
-pub awaits_all : (all : List Link) (old : Table) → Awaits all all old old
-awaits_all all old = λ new joins. joins
 
 -- the front of the rest is joined now
 pub awaits_more : (front rest left all : List Link) (old now next : Table) → rest ≡ front ++ left → Joins front now next → Awaits rest all old now → Awaits left all old next

@@ -1,10 +1,10 @@
 -- First occurrences whose characters are known to be those of whole tokens.
-use Rattle.std.proofs.Common.{◌≡◌, ℕ, ◌<◌, ◌&&◌, Bool, true, false, List, length, get_or, set, replicate, refl, sym, ap, ◌∙◌, subst, inl, inr, arith, Option, Some, None}
+use Rattle.std.proofs.Common.{◌≡◌, ℕ, ◌<◌, ◌&&◌, Bool, true, false, List, length, get_or, set, refl, sym, ap, ◌∙◌, subst, inl, inr, Option, Some, None}
 use Rattle.std.specs.Prelude.{slice_get, unwrap_or, MatchBool}
 use Rattle.std.specs.Str.{bytes_eq}
-use Rattle.std.proofs.lemmas.Bool.{false≢true, and_parts, and_from, cases_eq, cases_lt}
-use Rattle.std.proofs.lemmas.List.{get_or-set_same, get_or-set_other, get_or-replicate, get_or_past, length-replicate}
-use Rattle.std.proofs.lemmas.Option.{none-some, same_Some}
+use Rattle.std.proofs.lemmas.Bool.{false≢true, and_parts, and_from, cases_eq}
+use Rattle.std.proofs.lemmas.List.{get_or-set_same, get_or-set_other}
+use Rattle.std.proofs.lemmas.Option.{same_Some}
 use Rattle.cs_base.proofs.FileMapLemmas.{bytes_eq-same}
 use Rattle.cs_base.specs.Token.{Token}
 use Rattle.cs_base.specs.declared.positions.Part.{Part}
@@ -62,14 +62,6 @@ met_after x first old new own e h joins = known_kept first old new joins.tokens 
 
 pub all_kept : (firsts : List (Option ℕ)) (toks : List Token) (old new : Table) → added_tokens new ≡ added_tokens old → AreKnown firsts toks old → AreKnown firsts toks new
 all_kept firsts toks old new same h = λ e j t is at. known_kept t old new same (h e j t is at)
-
-pub known_none : (n : ℕ) (firsts : List (Option ℕ)) (toks : List Token) (table : Table) → firsts ≡ replicate n None → AreKnown firsts toks table
-known_none n firsts toks table e = λ entity j t is at.
-    let long : length firsts ≡ n = ap length e ∙ length-replicate {A = Option ℕ} n None in
-    elim (cases_lt entity n) [
-      | inl within ↦ absurd (none-some j (sym (ap (λ v. get_or v entity None) e ∙ get_or-replicate n entity None None within) ∙ is))
-      | inr past ↦ absurd (none-some j (sym (get_or_past firsts entity None (omega (arith, past, long))) ∙ is))
-    ]
 
 pub known_more : (entity first : ℕ) (firsts next : List (Option ℕ)) (toks : List Token) (y : Token) (table : Table) → entity < length firsts → next ≡ set firsts entity (Some first)
     → slice_get toks first ≡ Some y → IsKnown y table → AreKnown firsts toks table → AreKnown next toks table

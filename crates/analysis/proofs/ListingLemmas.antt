@@ -1,5 +1,5 @@
 -- The lists of the classes: what makes them, class by class.
-use Rattle.std.proofs.Common.{◌≡◌, ℕ, zero, suc, ◌+◌, ◌-◌, ◌<◌, ◌≤◌, List, [], ◌∷◌, ◌++◌, length, take, get_or, Option, Some, slice_get, inl, inr, refl, sym, ap, ◌∙◌, subst, arith}
+use Rattle.std.proofs.Common.{◌≡◌, ℕ, zero, suc, ◌+◌, ◌-◌, ◌<◌, ◌≤◌, List, [], ◌∷◌, ◌++◌, length, take, get_or, Some, slice_get, inl, inr, refl, sym, ap, ◌∙◌, subst, arith}
 use Rattle.std.specs.Prelude.{◌⊎◌}
 use Rattle.std.specs.Cmp.{IsTotalOrder}
 use Rattle.std.specs.List.{Contains, AllAdjacentBelow}
@@ -10,11 +10,10 @@ use Rattle.std.specs.declared.cmp.Ordering.{Ordering}
 use Rattle.std.specs.declared.cmp.Ordering.TheVariants.{Less, Equal}
 use Rattle.std.proofs.lemmas.Bool.{cases_lt}
 use Rattle.std.proofs.lemmas.Cmp.{then_total, on_total, nat_list_cmp_total, nat_cmp_total, tied_itself}
-use Rattle.std.proofs.lemmas.List.{append-nil, get_or_append_left, get_or_default, get_or_push, length-append, take_all}
+use Rattle.std.proofs.lemmas.List.{append-nil, get_or_append_left, get_or_default, get_or_push, length-append}
 use Rattle.std.proofs.lemmas.List.Sorted.{Contains-permutation, IsPermutation-sym, all_adjacent_more}
 use Rattle.std.proofs.lemmas.Map.Keys.{Less-from_sorted, sorted_from_all_adjacent}
-use Rattle.std.proofs.lemmas.Option.{slice_get_cases, slice_get_within, slice_get-get_or, get_or_from_slice_get}
-use Rattle.std.proofs.lemmas.Grind.{take_at_read}
+use Rattle.std.proofs.lemmas.Option.{slice_get_within, slice_get-get_or, get_or_from_slice_get}
 use Rattle.cs_base.specs.declared.positions.Part.{Part}
 use Rattle.cs_base.specs.declared.positions.Pos.{Pos}
 use Rattle.eclass_map.specs.ClassTable.{Table, HasParts, class_in, members_of}
@@ -53,25 +52,6 @@ pub pushed_kept : {X : Type 0} (xs : List X) (y : X) (k : ℕ) (x : X) → slice
 pushed_kept [] y k x at = absurd (cc)
 pushed_kept (z ∷ xs) y zero x at = at
 pushed_kept (z ∷ xs) y (suc k) x at = pushed_kept xs y k x at
-
--- a list that is copied from the front, one element after another
-pub copied_more : {X : Type 0} (xs ys ys' : List X) (x : X) → ys ≡ take (length ys) xs → slice_get xs (length ys) ≡ Some x → ys' ≡ ys ++ x ∷ []
-    → (ys' ≡ take (length ys') xs) × (length ys' ≡ length ys + 1)
-copied_more {X = X} xs ys ys' x so_far at more =
-    let within : length ys < length xs = slice_get_within xs (length ys) x at in
-    let is : get_or xs (length ys) x ≡ x = get_or_from_slice_get xs (length ys) x x at in
-    let next : take (length ys + 1) xs ≡ take (length ys) xs ++ get_or xs (length ys) x ∷ [] = (take_at_read xs (length ys) x within).1 in
-    let len : length ys' ≡ length ys + 1 = ap length more ∙ length-append ys (x ∷ []) in
-    let whole : ys' ≡ take (length ys + 1) xs =
-    more ∙ ap (λ (l : List X). l ++ x ∷ []) so_far ∙ ap (λ (y : X). take (length ys) xs ++ y ∷ []) (sym is) ∙ sym next in
-    (whole ∙ ap (λ (n : ℕ). take n xs) (sym len), len)
-
-pub copied_all : {X : Type 0} (xs ys : List X) (next : Option X) → ys ≡ take (length ys) xs → next ≡ slice_get xs (length ys)
-    → ((x : X) → next ≡ Some x → ⊥) → ys ≡ xs
-copied_all xs ys next so_far is none = elim ((slice_get_cases xs (length ys)).1) [
-  | inl more ↦ absurd (none more.0 (is ∙ more.2))
-  | inr past ↦ so_far ∙ take_all (length ys) xs past.0
-]
 
 -- ---- the order of places
 
@@ -170,9 +150,6 @@ first_only a t h c p ps of part (suc k) at first =
 
 -- ---- the first members
 
-pub no_firsts : (a : AnalysisValue) (t : Table) → AreFirstsBelow a t 0 []
-no_firsts a t = record { each = λ k part at. absurd (cc); all = λ part c below is first. absurd (omega arith) }
-
 pub firsts_more : (a : AnalysisValue) (t : Table) → AreItsClasses a t → (n : ℕ) (firsts parts : List Part) → AreFirstsBelow a t n firsts
     → AreOfClass a t n parts → AreFirstsBelow a t (n + 1) (firsts ++ take 1 parts)
 firsts_more a t h n firsts [] before of =
@@ -215,9 +192,6 @@ firsts_all a t h n firsts sorted before below p order = record {
 }
 
 -- ---- all lists
-
-pub none_listed : (a : AnalysisValue) (t : Table) → AreListed a t 0 (class_lists [] [])
-none_listed a t = record { count = refl; members = λ c below. absurd (omega arith); firsts = no_firsts a t }
 
 pub listed_more : (a : AnalysisValue) (t : Table) → AreItsClasses a t → (n : ℕ) (lists : ClassLists) (parts : List Part) → AreListed a t n lists
     → AreOfClass a t n parts → AreListed a t (n + 1) (with_class parts lists)

@@ -1,11 +1,14 @@
 -- Ranges of tokens that a place may name.
-use Rattle.std.proofs.Common.{◌≡◌, ℕ, zero, suc, ◌+◌, ◌-◌, ◌<◌, ◌≤◌, true, false, min, List, [], ◌∷◌, take, drop, Some, refl, sym, ap, ◌∙◌, arith}
+use Rattle.std.proofs.Common.{◌≡◌, ℕ, zero, suc, ◌+◌, ◌-◌, ◌<◌, ◌≤◌, Bool, true, false, ◌&&◌, if◌then◌else◌, min, List, [], ◌∷◌, take, drop, Some, refl, sym, ap, ◌∙◌, arith}
 use Rattle.std.specs.Prelude.{slice_get, slice_range}
 use Rattle.std.proofs.lemmas.List.{drop-drop}
 use Rattle.std.proofs.lemmas.Option.{same_Some}
 use Rattle.cs_base.specs.Token.{Token}
-use Rattle.include_tree.specs.Below.source_files.HeaderNames.{is_header}
-use Rattle.analysis.specs.Naming.{computed_name}
+use Rattle.include_tree.specs.Below.source_files.HeaderNames.{is_header, begins_header}
+use Rattle.include_tree.specs.Below.line_shape.declared.items.GnuLine.{GnuLine}
+use Rattle.include_tree.specs.Below.line_shape.declared.items.GnuLine.TheVariants.{IncludeNext, Message, Elifdef, Elifndef}
+use Rattle.include_tree.specs.Below.line_shape.Directives.{is_elif}
+use Rattle.analysis.specs.Naming.{computed_name, nameable_next, nameable_behind}
 
 -- ---- ranges of lists
 
@@ -64,19 +67,30 @@ computed_none toks from to t some e header =
     let none : computed_name (t ∷ first.0) ≡ [] = rw header refl in
     ap computed_name first.1 ∙ none ∙ sym (empty_range toks from 0 (omega arith))
 
-pub computed_all : (toks : List Token) (from to : ℕ) (t : Token) → from < to → slice_get toks from ≡ Some t → is_header t.kind ≡ false
-    → computed_name (slice_range toks from to) ≡ slice_range toks from to
-computed_all toks from to t some e other =
-    let first = range_first toks from to t some e in
-    let all : computed_name (t ∷ first.0) ≡ t ∷ first.0 = rw other refl in
-    ap computed_name first.1 ∙ all ∙ sym first.1
-
-pub computed_past : (toks : List Token) (from to : ℕ) → to ≤ from → computed_name (slice_range toks from to) ≡ slice_range toks from to
-computed_past toks from to past =
-    let none = empty_range toks from to past in ap computed_name none ∙ sym none
-
 -- ---- directive lines
 
 pub named_first : (toks : List Token) (from to end : ℕ) → end ≡ min (from + 2 + 1) to → take 1 (drop 2 (slice_range toks from to)) ≡ slice_range toks (from + 2) end
 named_first toks from to end is =
     ap (take 1) (drop_range 2 toks from to) ∙ take_range toks (from + 2) to ∙ ap (slice_range toks (from + 2)) (sym is)
+
+-- a line that GNU C alone has, and that asks for no file
+pub behind_named : (line : GnuLine) (evaluated : Bool) (toks : List Token) (from to n : ℕ) → (line ≡ IncludeNext → ⊥) → n ≡ (if evaluated && is_elif line then min (from + 1) to else 0)
+    → nameable_behind line evaluated (slice_range toks from to) ≡ slice_range toks from n
+behind_named Elifdef true toks from to n other is = take_range toks from to ∙ ap (slice_range toks from) (sym is)
+behind_named Elifndef true toks from to n other is = take_range toks from to ∙ ap (slice_range toks from) (sym is)
+behind_named Elifdef false toks from to n other is = sym (empty_range toks from n (omega (arith, is)))
+behind_named Elifndef false toks from to n other is = sym (empty_range toks from n (omega (arith, is)))
+behind_named IncludeNext evaluated toks from to n other is = absurd (other refl)
+behind_named Message true toks from to n other is = sym (empty_range toks from n (omega (arith, is)))
+behind_named Message false toks from to n other is = sym (empty_range toks from n (omega (arith, is)))
+
+-- one that asks for the next file of a name, which stands there or is expanded
+pub next_none : (toks : List Token) (from to : ℕ) → begins_header (slice_range toks from to) ≡ true → nameable_next (slice_range toks from to) ≡ slice_range toks from 0
+next_none toks from to begins = rw begins (sym (empty_range toks from 0 (omega arith)))
+
+pub next_all : (toks : List Token) (from to : ℕ) → begins_header (slice_range toks from to) ≡ false → nameable_next (slice_range toks from to) ≡ slice_range toks from to
+next_all toks from to other = rw other refl
+
+pub next_past : (toks : List Token) (from to : ℕ) → to ≤ from → nameable_next (slice_range toks from to) ≡ slice_range toks from 0
+next_past toks from to past =
+    let none = empty_range toks from to past in rw none (sym (empty_range toks from 0 (omega arith)))

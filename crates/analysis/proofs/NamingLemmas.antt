@@ -11,10 +11,11 @@ use Rattle.cs_base.specs.Token.{Token, has_origins}
 use Rattle.lexer.specs.Tokens.{tokens_of, firsts_of}
 use Rattle.include_tree.specs.Below.line_shape.declared.items.ItemKind.{ItemKind}
 use Rattle.include_tree.specs.Below.line_shape.declared.items.ItemKind.TheVariants as kind
+use Rattle.include_tree.specs.Below.line_shape.declared.items.GnuLine.TheVariants as gnu
 use Rattle.include_tree.specs.Below.line_shape.Items.{items_of}
 use Rattle.include_tree.specs.Below.line_shape.Signs.{is_name, is_identifier}
 use Rattle.include_tree.specs.Below.source_files.Files.{Table}
-use Rattle.include_tree.specs.Below.source_files.HeaderNames.{is_header}
+use Rattle.include_tree.specs.Below.source_files.HeaderNames.{is_header, begins_header}
 use Rattle.include_tree.specs.Below.source_files.KeptFiles.{KeptValue, kept_in, kept_at}
 use Rattle.include_tree.specs.Walk.{ItemText, item_text, item_texts}
 use Rattle.eclass_map.specs.Positions.{holds}
@@ -121,6 +122,10 @@ computed_in t (u ∷ toks) i = by_kind (is_header u.kind) i
     by_kind true j = absurd (cc)
     by_kind false j = j
 
+next_in : (t : Token) (toks : List Token) (b : Bool) → In t (cond b [] toks) → In t toks
+next_in t toks true i = absurd (cc)
+next_in t toks false i = i
+
 nameable_in : (k : ItemKind) (evaluated : Bool) (t : Token) (toks : List Token) → In t (nameable k evaluated toks) → In t toks
 nameable_in kind.Run evaluated t toks i = i
 nameable_in kind.Define evaluated t toks i = drop_at t 2 toks i
@@ -139,6 +144,12 @@ nameable_in kind.Error evaluated t toks i = absurd (cc)
 nameable_in kind.Pragma evaluated t toks i = absurd (cc)
 nameable_in kind.Empty evaluated t toks i = absurd (cc)
 nameable_in (kind.Bad cause at nests) evaluated t toks i = absurd (cc)
+nameable_in (kind.Gnu gnu.IncludeNext) evaluated t toks i = drop_at t 2 toks (next_in t (drop 2 toks) (begins_header (drop 2 toks)) i)
+nameable_in (kind.Gnu gnu.Message) evaluated t toks i = absurd (cc)
+nameable_in (kind.Gnu gnu.Elifdef) true t toks i = drop_at t 2 toks (take_at t 1 (drop 2 toks) i.0 i.1)
+nameable_in (kind.Gnu gnu.Elifdef) false t toks i = absurd (cc)
+nameable_in (kind.Gnu gnu.Elifndef) true t toks i = drop_at t 2 toks (take_at t 1 (drop 2 toks) i.0 i.1)
+nameable_in (kind.Gnu gnu.Elifndef) false t toks i = absurd (cc)
 
 -- the tokens of an item are tokens of its file
 item_in : (toks : List Token) (firsts : List Bool) (k : ℕ) (i : ItemText) (t : Token) → slice_get (item_texts toks firsts) k ≡ Some i → In t i.toks → In t toks

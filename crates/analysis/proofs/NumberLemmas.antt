@@ -3,7 +3,7 @@ use Rattle.std.proofs.Common.{◌≡◌, ◌+◌, ◌<◌, ◌≤◌, ◌⊎◌,
 use Rattle.std.specs.List.{Contains}
 use Rattle.std.specs.List.Sorted.{IsPermutation}
 use Rattle.std.proofs.lemmas.List.Sorted.{Contains-permutation, IsPermutation-sym}
-use Rattle.std.proofs.lemmas.Option.{none-some, slice_get-get_or, slice_get_within, get_or_from_slice_get}
+use Rattle.std.proofs.lemmas.Option.{slice_get-get_or, slice_get_within, get_or_from_slice_get}
 use Rattle.cs_base.specs.Token.{Token}
 use Rattle.analysis.specs.FileTokens.{span_of}
 use Rattle.analysis.specs.BroughtNumbers.{IsAmong, StandsFor, AreInOrder, AreNumbers, ComesBehind, AddsOnce}
@@ -19,9 +19,6 @@ among_own xs x = (length xs, pushed_own xs x)
 
 among_cases : (xs : List Token) (x t : Token) → IsAmong (xs ++ x ∷ []) t → IsAmong xs t ⊎ (x ≡ t)
 among_cases xs x t a = elim (pushed_cases xs x t a.0 a.1) [ inl old ↦ inl (a.0, old.1) | inr own ↦ inr own.1 ]
-
-among_none : (t : Token) → IsAmong [] t → ⊥
-among_none t a = none-some t a.1
 
 among_moved : (xs ys : List Token) (t : Token) → IsPermutation xs ys → IsAmong xs t → IsAmong ys t
 among_moved xs ys t moved a =
@@ -64,17 +61,6 @@ adds_once xs ys x h b is =
       only = λ s a. elim (among_cases xs x s a) [ inl old ↦ inl old | inr own ↦ inr (sym own) ];
       in_order = in_order-more xs x h b;
     })
-
-pub numbers_none : AreNumbers [] []
-numbers_none = record {
-  each = λ t a. a;
-  all = λ t a. absurd (among_none t a);
-  in_order = record {
-    lines = λ k t at. absurd (none-some t at);
-    some = λ k t at. absurd (none-some t at);
-    ordered = λ j k s t less at_j at_k. absurd (none-some t at_k);
-  };
-}
 
 pub numbers_more : (brought old new : List Token) (t : Token) → AreNumbers brought old → AddsOnce t old new → AreNumbers (brought ++ t ∷ []) new
 numbers_more brought old new t h adds = record {

@@ -2,7 +2,7 @@
 use Rattle.std.proofs.Common.{◌≡◌, ℕ, ◌+◌, ◌-◌, List, Option, Some, None, slice_get, refl, arith}
 use Rattle.std.specs.Option.{option_map}
 use Rattle.include_tree.specs.Below.unit_steps.Texts.{UnitTextValue}
-use Rattle.scope_bind.specs.Bound.{Bound}
+use Rattle.gnu_bind.specs.Below.scope_bind.Bound.{Bound}
 use Rattle.analysis.specs.Analysis.{UnitAnalysis}
 
 text_in : (r : Option UnitAnalysis) (text : UnitTextValue) → option_map (λ (u : UnitAnalysis). u.text) r ≡ Some text

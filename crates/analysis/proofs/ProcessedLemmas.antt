@@ -1,9 +1,9 @@
 -- The identifiers of items that were reached, and their marks.
-use Rattle.std.proofs.Common.{◌≡◌, ℕ, zero, suc, ◌+◌, ◌-◌, ◌<◌, ◌≤◌, Bool, true, false, nat_lt, List, [], ◌∷◌, ◌++◌, map, take, drop, length, Option, None, Some, Ok, refl, sym, ap, subst, ◌∙◌, inl, inr, arith, append-nil, append_assoc, take_all}
+use Rattle.std.proofs.Common.{◌≡◌, ℕ, zero, suc, ◌+◌, ◌-◌, ◌<◌, ◌≤◌, Bool, true, nat_lt, List, [], ◌∷◌, ◌++◌, map, take, drop, length, Option, None, Some, Ok, refl, sym, ap, subst, ◌∙◌, inl, inr, arith, append-nil, append_assoc, take_all}
 use Rattle.std.specs.Prelude.{slice_get, slice_range, Result, Err, OnOk}
 use Rattle.std.specs.List.{filter, flat_map}
 use Rattle.std.specs.Option.{option_map_or, option_and_then}
-use Rattle.std.proofs.lemmas.Bool.{cases_Bool, both_ways}
+use Rattle.std.proofs.lemmas.Bool.{cases_Bool}
 use Rattle.std.proofs.lemmas.Option.{same_Some}
 use Rattle.cs_base.specs.Token.{Token}
 use Rattle.cs_base.specs.Limits.{most_bytes}
@@ -16,7 +16,7 @@ use Rattle.include_tree.specs.Below.unit_steps.declared.events.Reached.{Reached}
 use Rattle.include_tree.specs.Below.source_files.Files.{Table}
 use Rattle.include_tree.specs.Below.source_files.KeptFiles.{KeptValue, kept_at}
 use Rattle.include_tree.specs.Walk.{ItemText, item_text}
-use Rattle.analysis.specs.Marking.{is_marked, MarksItem, Has, IsMarkedToken, MarksTokens, AreMarked}
+use Rattle.analysis.specs.Marking.{MarksItem, Has, IsMarkedToken, MarksTokens}
 use Rattle.analysis.specs.Naming.{nameable, item_at, names_in_item, names_reached}
 use Rattle.analysis.proofs.NamingLemmas.{in_left, in_right, split_at, map_at, in_filter, filter_in}
 
@@ -121,10 +121,6 @@ item_marked table r file item old new is_kept at h =
       ];
     }
 
--- an item of which no text is kept
-pub no_file : (table : Table) (r : Reached) → kept_at table r.file ≡ None → names_reached table r ≡ []
-no_file table r none = ap (λ (o : Option KeptValue). option_map_or (names_in_item r.evaluated) (option_and_then (item_at r.item) o) []) none
-
 none_mapped : {X Y : Type 0} (f : X → Y) (xs : List X) (k : ℕ) → slice_get xs k ≡ None → slice_get (map f xs) k ≡ None
 none_mapped f [] k e = refl
 none_mapped f (x ∷ xs) zero e = absurd (cc)
@@ -182,17 +178,6 @@ pub marks_all : {X : Type 0} (table : Table) (f : X → List Token) (xs : List X
     → MarksTokens table (flat_map f (take k xs)) old new → MarksTokens table (flat_map f xs) old new
 marks_all table f xs k old new past h =
     subst (λ (ts : List _). MarksTokens table (flat_map f ts) old new) (take_all k xs past) h
-
--- marks that begin blank
-pub marks_blank : (table : Table) (names : List Token) (blank marks : List (List Bool)) → ((n k : ℕ) → is_marked blank n k ≡ false)
-    → MarksTokens table names blank marks → AreMarked table names marks
-marks_blank table names blank marks none h = record {
-  all = h.all;
-  only = λ m j file t marked is_kept at. elim (h.only m j marked) [
-    | inl before ↦ absurd (both_ways (is_marked blank m j) (none m j) before)
-    | inr is ↦ is file t is_kept at
-  ];
-}
 
 pub on_ok : {X F : Type 0} (P Q : Type 0) (r : Result X F) → OnOk r P → (P → Q) → OnOk r Q
 on_ok P Q (Ok x) h f = f h

@@ -1,9 +1,9 @@
 -- How parts are spelled.
-use Rattle.std.proofs.Common.{◌≡◌, ℕ, zero, suc, ◌+◌, ◌-◌, ◌≤◌, Bool, true, min, List, [], ◌∷◌, map, take, drop, length, Option, None, Some, refl, sym, ap, subst, ◌∙◌, inl, inr, arith}
-use Rattle.std.specs.Prelude.{slice_get, slice_range, find}
+use Rattle.std.proofs.Common.{◌≡◌, ℕ, zero, suc, ◌+◌, ◌-◌, Bool, true, List, [], ◌∷◌, map, take, drop, Option, None, Some, refl, sym, ap, subst, ◌∙◌, inl, inr, arith}
+use Rattle.std.specs.Prelude.{slice_get, find}
 use Rattle.std.specs.List.{flat_map}
 use Rattle.std.specs.Option.{option_map_or, option_and_then}
-use Rattle.std.proofs.lemmas.Bool.{cases_Bool, cases_lt, both_ways}
+use Rattle.std.proofs.lemmas.Bool.{cases_Bool, both_ways}
 use Rattle.std.proofs.lemmas.Option.{same_Some}
 use Rattle.cs_base.specs.declared.positions.Part.{Part}
 use Rattle.cs_base.specs.declared.positions.Pos.{Pos}
@@ -22,48 +22,8 @@ use Rattle.analysis.specs.TokenSearch.{AreInLine}
 use Rattle.analysis.proofs.NamingLemmas.{In, split_at, filter_in}
 use Rattle.analysis.proofs.PlaceNameLemmas.{kept_number}
 use Rattle.analysis.proofs.TokenPlaceLemmas.{tokens_in_line}
-use Rattle.analysis.proofs.NameableLemmas.{take_none}
 
 -- ---- slices
-
-taken_all : {X : Type 0} (n : ℕ) (xs : List X) → length xs ≤ n → take n xs ≡ xs
-taken_all zero [] past = refl
-taken_all zero (x ∷ xs) past = absurd (omega arith)
-taken_all (suc n) [] past = refl
-taken_all (suc n) (x ∷ xs) past = ap (λ ys. x ∷ ys) (taken_all n xs (omega arith))
-
-drop_past : {X : Type 0} (n : ℕ) (xs : List X) → length xs ≤ n → ◌≡◌ {A = List X} (drop n xs) []
-drop_past zero [] past = refl
-drop_past zero (x ∷ xs) past = absurd (omega arith)
-drop_past (suc n) [] past = refl
-drop_past (suc n) (x ∷ xs) past = drop_past n xs (omega arith)
-
-dropped_length : {X : Type 0} (n : ℕ) (xs : List X) → length (drop n xs) ≡ length xs - n
-dropped_length zero xs = omega arith
-dropped_length (suc n) [] = omega arith
-dropped_length (suc n) (x ∷ xs) = let h = dropped_length n xs in omega arith
-
--- a range that is cut at the end of the list
-pub clipped : {X : Type 0} (xs : List X) (before n from to : ℕ) → from ≡ min before (length xs) → to ≡ min (from + n) (length xs)
-    → slice_range xs from to ≡ take n (drop before xs)
-clipped {X = X} xs before n from to begins ends = elim (cases_lt before (length xs)) [
-  | inl within ↦
-      let same : from ≡ before = omega arith in
-      let size = dropped_length before xs in
-      elim (cases_lt (before + n) (length xs)) [
-        | inl less ↦
-            let count : to - from ≡ n = omega arith in
-            ap (λ (m : ℕ). take m (drop from xs)) count ∙ ap (λ (m : ℕ). take n (drop m xs)) same
-        | inr more ↦
-            let count : length (drop before xs) ≤ to - from = omega arith in
-            let also : length (drop before xs) ≤ n = omega arith in
-            ap (λ (m : ℕ). take (to - from) (drop m xs)) same ∙ taken_all (to - from) (drop before xs) count ∙ sym (taken_all n (drop before xs) also)
-      ]
-  | inr past ↦
-      let none : to - from ≡ 0 = omega arith in
-      let nothing : take n (drop before xs) ≡ [] = ap (take n) (drop_past before xs past) ∙ take_none n in
-      ap (λ (m : ℕ). take m (drop from xs)) none ∙ sym nothing
-]
 
 -- ---- where file tokens stand
 

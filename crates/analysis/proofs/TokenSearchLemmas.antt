@@ -1,5 +1,5 @@
 -- A search for the token that holds a character, by halving.
-use Rattle.std.proofs.Common.{◌≡◌, ℕ, ◌+◌, ◌-◌, ◌<◌, ◌≤◌, true, false, List, Some, None, sym, subst, ◌∙◌, inl, inr, arith}
+use Rattle.std.proofs.Common.{◌≡◌, ℕ, ◌-◌, ◌<◌, ◌≤◌, true, false, List, Some, None, sym, subst, ◌∙◌, inl, inr, arith}
 use Rattle.std.specs.Prelude.{slice_get}
 use Rattle.std.proofs.lemmas.Option.{same_Some}
 use Rattle.std.proofs.lemmas.Bool.{cases_eq, cases_lt, leb-true, le-leb, both_ways, false_from_ne_true}
@@ -13,14 +13,6 @@ use Rattle.analysis.specs.TokenSearch.{AreInLine, IsOver, begins_by}
 -- what holds a character has begun by it
 begun_where_held : (t : Token) (p : Pos) → holds (span_of t) p ≡ true → begins_by p.at t ≡ true
 begun_where_held t p e = le-leb (span_of t).start.at p.at (holding (span_of t) p e).from
-
--- what stands before a token that has begun has begun
-begun_before : (toks : List Token) (p : Pos) (j k : ℕ) (t u : Token) → AreInLine p.file toks → j < k → slice_get toks j ≡ Some t → slice_get toks k ≡ Some u
-    → begins_by p.at u ≡ true → begins_by p.at t ≡ true
-begun_before toks p j k t u are less e f begun =
-    let apart = are.ordered j k t u less e f in
-    let from = leb-true (span_of u).start.at p.at begun in
-    le-leb (span_of t).start.at p.at (omega arith)
 
 -- and does not hold the character
 not_held_before : (toks : List Token) (p : Pos) (j k : ℕ) (t u : Token) → AreInLine p.file toks → j < k → slice_get toks j ≡ Some t → slice_get toks k ≡ Some u
@@ -49,30 +41,6 @@ over_once toks p j k t u are e f held also = elim (cases_eq j k) [
 pub record Halved (toks : List Token) (p : Pos) (count : ℕ) : Type 0 where
   pub before : (k : ℕ) (t : Token) → k < count → slice_get toks k ≡ Some t → begins_by p.at t ≡ true
   pub behind : (k : ℕ) (t : Token) → count ≤ k → slice_get toks k ≡ Some t → begins_by p.at t ≡ false
-
-pub halve_up : (toks : List Token) (p : Pos) (middle : ℕ) (t : Token) → AreInLine p.file toks → slice_get toks middle ≡ Some t → begins_by p.at t ≡ true
-    → (k : ℕ) (u : Token) → k < middle + 1 → slice_get toks k ≡ Some u → begins_by p.at u ≡ true
-halve_up toks p middle t are e begun k u less f = elim (cases_eq k middle) [
-  | inl same ↦
-      let P : ℕ → Type 0 = λ v. slice_get toks v ≡ Some u in
-      let Q : Token → Type 0 = λ v. begins_by p.at v ≡ true in
-      subst Q (same_Some t u (sym e ∙ subst P same f)) begun
-  | inr apart ↦ begun_before toks p k middle u t are (omega arith) f e begun
-]
-
-pub halve_down : (toks : List Token) (p : Pos) (middle : ℕ) (t : Token) → AreInLine p.file toks → slice_get toks middle ≡ Some t → begins_by p.at t ≡ false
-    → (k : ℕ) (u : Token) → middle ≤ k → slice_get toks k ≡ Some u → begins_by p.at u ≡ false
-halve_down toks p middle t are e later k u most f = false_from_ne_true (begins_by p.at u) (λ begun. both_ways (begins_by p.at t) later (elim (cases_eq k middle) [
-  | inl same ↦
-      let P : ℕ → Type 0 = λ v. slice_get toks v ≡ Some u in
-      let Q : Token → Type 0 = λ v. begins_by p.at v ≡ true in
-      subst Q (same_Some u t (sym (subst P same f) ∙ e)) begun
-  | inr apart ↦ begun_before toks p middle k t u are (omega arith) e f begun
-]))
-
-pub over_none : (toks : List Token) (p : Pos) (count : ℕ) → Halved toks p count → count ≤ 0 → IsOver toks p None
-over_none toks p count h none = λ k t e. false_from_ne_true (holds (span_of t) p) (λ held.
-    both_ways (begins_by p.at t) (h.behind k t (omega arith) e) (begun_where_held t p held))
 
 pub over_not : (toks : List Token) (p : Pos) (count : ℕ) (t : Token) → AreInLine p.file toks → Halved toks p count → 0 < count → slice_get toks (count - 1) ≡ Some t
     → holds (span_of t) p ≡ false → IsOver toks p None

@@ -19,8 +19,9 @@ use Rattle.c99_tree.specs.Tree.{Node}
 use Rattle.c99_read.specs.Reading.{Stop, syntax, too_deep, read_of}
 use Rattle.c99_read.specs.Below.c99_grammar.Dialects.{dialect}
 use Rattle.c99_read.specs.Below.c99_grammar.Standard.{grammar}
-use Rattle.scope_bind.specs.Bound.{Bound, binding_of}
-use Rattle.scope_bind.specs.Causes.{cause_of, index_of}
+use Rattle.gnu_bind.specs.Below.scope_bind.Bound.{Bound}
+use Rattle.gnu_bind.specs.Bound.{binding_by}
+use Rattle.gnu_bind.specs.Below.scope_bind.Causes.{cause_of, index_of}
 use Rattle.analysis.specs.Texts.{UnitFault, unit_fault, unit_with}
 use Rattle.analysis.specs.Places.{place_at}
 
@@ -76,7 +77,7 @@ fault_at_index table path toks index why = fault (place_of_index table path toks
 abbrev pub bound_unit : Standard → Table → List ℕ → UnitTextValue → Node → Result UnitAnalysis Fault
 bound_unit standard table path text tree =
     result_then (λ bound. Ok (unit_analysis standard text tree bound))
-    (result_map_err (λ f. fault_at_index table path text.toks (index_of f) (cause_of f)) (binding_of text.toks tree))
+    (result_map_err (λ f. fault_at_index table path text.toks (index_of f) (cause_of f)) (binding_by standard text.toks tree))
 
 -- a unit of this text, read by a standard and bound, or its fault
 abbrev pub read_unit : Standard → Table → List ℕ → UnitTextValue → Result UnitAnalysis Fault

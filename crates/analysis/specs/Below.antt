@@ -11,7 +11,8 @@ pub use Rattle.include_tree.specs as include_tree
 pub use Rattle.c99_tree.specs as c99_tree
 pub use Rattle.c99_read.specs.Below.c99_grammar as c99_grammar
 pub use Rattle.c99_read.specs as c99_read
-pub use Rattle.c_types.specs as c_types
-pub use Rattle.scope_bind.specs as scope_bind
+pub use Rattle.gnu_bind.specs.Below.c_types as c_types
+pub use Rattle.gnu_bind.specs.Below.scope_bind as scope_bind
+pub use Rattle.gnu_bind.specs as gnu_bind
 pub use Rattle.eclass_map.specs as eclass_map
 pub use Rattle.linkage_join.specs as linkage_join

@@ -7,9 +7,9 @@ use Rattle.cs_base.specs.declared.positions.Pos.{Pos}
 use Rattle.cs_base.specs.declared.tokens.Link.{Link}
 use Rattle.cs_base.specs.Token.{Token, token}
 use Rattle.cs_base.specs.Units.{UnitValue}
-use Rattle.c_types.specs.declared.entity.Linkage.TheVariants.{External}
-use Rattle.c_types.specs.Declarations.{is_linkage, spelling_at}
-use Rattle.scope_bind.specs.Names.{entity_at, linkage_at}
+use Rattle.gnu_bind.specs.Below.c_types.declared.entity.Linkage.TheVariants.{External}
+use Rattle.gnu_bind.specs.Below.c_types.Declarations.{is_linkage, spelling_at}
+use Rattle.gnu_bind.specs.Below.scope_bind.Names.{entity_at, linkage_at}
 use Rattle.include_tree.specs.Below.source_files.Files.{Table, Found, Lines, Absent, Unopened, Opened, Made, entry}
 use Rattle.include_tree.specs.Below.unit_steps.Notes.{link}
 use Rattle.include_tree.specs.Below.unit_steps.declared.events.Event.{Event}

@@ -1,6 +1,6 @@
 -- The first occurrences of entities among the tokens before one.
 use Rattle.std.specs.Prelude.{ℕ, ◌≡◌, ◌<◌, true, false, List, Option, Some, None, length, slice_index_or}
-use Rattle.scope_bind.specs.declared.bound.Name.{Name}
+use Rattle.gnu_bind.specs.Below.scope_bind.declared.bound.Name.{Name}
 use Rattle.analysis.specs.Links.{is_bound_to}
 
 -- token j is bound to the entity, and no token before it

@@ -3,6 +3,7 @@ pub mod Texts
 pub mod Answers
 pub mod Places
 pub mod Analysis
+pub mod GnuUnits
 pub mod Links
 pub mod FileTokens
 pub mod Parts

@@ -9,10 +9,10 @@ use Rattle.cs_base.specs.Token.{Token}
 use Rattle.cs_base.specs.Units.{UnitValue}
 use Rattle.include_tree.specs.Below.line_shape.Signs.{is_name}
 use Rattle.linkage_join.specs.Linkage.{UnitValue as ExternalNames, unit as external_names, link_to, links_of as external_links}
-use Rattle.scope_bind.specs.declared.bound.Name.{Name}
-use Rattle.c_types.specs.declared.entity.Linkage.TheVariants.{External}
-use Rattle.c_types.specs.Declarations.{is_linkage}
-use Rattle.scope_bind.specs.Names.{entity_at, linkage_at}
+use Rattle.gnu_bind.specs.Below.scope_bind.declared.bound.Name.{Name}
+use Rattle.gnu_bind.specs.Below.c_types.declared.entity.Linkage.TheVariants.{External}
+use Rattle.gnu_bind.specs.Below.c_types.Declarations.{is_linkage}
+use Rattle.gnu_bind.specs.Below.scope_bind.Names.{entity_at, linkage_at}
 use Rattle.analysis.specs.Analysis.{UnitAnalysis, AnalysisValue}
 
 -- ---- identifiers and their entities

@@ -12,10 +12,12 @@ use Rattle.lexer.specs.Places.{pos}
 use Rattle.lexer.specs.Tokens.{tokens_of, firsts_of}
 use Rattle.include_tree.specs.Below.line_shape.declared.items.ItemKind.{ItemKind}
 use Rattle.include_tree.specs.Below.line_shape.declared.items.ItemKind.TheVariants as kind
+use Rattle.include_tree.specs.Below.line_shape.declared.items.GnuLine.{GnuLine}
+use Rattle.include_tree.specs.Below.line_shape.declared.items.GnuLine.TheVariants.{IncludeNext, Elifdef, Elifndef}
 use Rattle.include_tree.specs.Below.line_shape.Signs.{is_name}
 use Rattle.include_tree.specs.Below.unit_steps.declared.events.Reached.{Reached}
 use Rattle.include_tree.specs.Below.source_files.Files.{Table}
-use Rattle.include_tree.specs.Below.source_files.HeaderNames.{is_header}
+use Rattle.include_tree.specs.Below.source_files.HeaderNames.{is_header, begins_header}
 use Rattle.include_tree.specs.Below.source_files.KeptFiles.{KeptValue, kept_in, kept_at}
 use Rattle.include_tree.specs.Walk.{ItemText, item_texts}
 use Rattle.eclass_map.specs.Positions.{holds}
@@ -31,6 +33,17 @@ abbrev pub computed_name : List Token → List Token
 computed_name [] = []
 computed_name (t ∷ toks) = if is_header t.kind then [] else t ∷ toks
 
+-- the tokens behind the word of a line that asks for the next file of a name, unless they begin as a header
+abbrev pub nameable_next : List Token → List Token
+nameable_next toks = if begins_header toks then [] else toks
+
+-- those behind the word of a line that GNU C alone has: the name that it asks for, or what names a file and is expanded
+abbrev pub nameable_behind : GnuLine → Bool → List Token → List Token
+nameable_behind Elifdef true toks = take 1 toks
+nameable_behind Elifndef true toks = take 1 toks
+nameable_behind IncludeNext evaluated toks = nameable_next toks
+nameable_behind _ evaluated toks = []
+
 -- The tokens of a reached item that a place may name: all of a run (6.10.3); the name, the parameters and the
 -- replacement list of a definition; the name behind `undef`, `ifdef` and `ifndef`; all that stand behind the word
 -- in a condition that was evaluated (6.10.1), and in an include line that is expanded.
@@ -43,6 +56,7 @@ nameable kind.Ifndef evaluated toks = take 1 (drop 2 toks)
 nameable kind.If true toks = drop 2 toks
 nameable kind.Elif true toks = drop 2 toks
 nameable kind.Include evaluated toks = computed_name (drop 2 toks)
+nameable (kind.Gnu line) evaluated toks = nameable_behind line evaluated (drop 2 toks)
 nameable _ evaluated toks = []
 
 -- item number k of a file

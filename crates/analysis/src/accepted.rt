@@ -2,15 +2,16 @@
 ghost use Rattle.std.specs.Prelude.{◌≡◌, ◌≤◌, IfOk, length, option_copied, slice_get};
 ghost use Rattle.std.specs.Option.{option_map};
 ghost use Rattle.cs_base.specs.Limits.{most_units};
+ghost use Rattle.analysis.specs.GnuUnits.{begin_of};
 ghost use Rattle.include_tree.specs.Below.source_files.Files.{absent_at};
 ghost use Rattle.include_tree.specs.Below.source_files.KeptFiles.{kept_at};
 ghost use Rattle.include_tree.specs.Below.source_files.Tables.{AreText, BeginsWithLines, HasEachOnce};
 
 use crate::reading::read_toks;
 use c99_tree::Tree;
-use cs_base::{Memory, Standard};
+use cs_base::{Memory, Pos, Standard, Tok};
+use gnu_bind::Bound;
 use include_tree::{Cache, KeptFile, UnitText};
-use scope_bind::Bound;
 use std::alloc::Global;
 use std::marker::Model;
 use ws_file::Workspace;
@@ -39,8 +40,19 @@ impl Model for UnitParts {
     ghost invariant = { λ u. HasTree u.standard u.text.toks (tree_of u.standard u.text.toks) };
 }
 
+// Where the first of some tokens was brought.
+fn begin_of(toks: &[Tok]) -> Pos
+    ensures { result ≡ begin_of toks.now }
+{
+    match toks.get(0) {
+        Some(tok) => tok.at(),
+        None => Pos { file: 0, at: 0 },
+    }
+}
+
 impl UnitParts {
     ghost use Rattle.analysis.specs.Analysis.{unit_analysis};
+    ghost use Rattle.analysis.specs.GnuUnits.{gnu_begin};
     ghost use Rattle.analysis.specs.Trees.{HasTree};
 
     pub(crate) fn new(standard: Standard, text: UnitText, tree: &Tree, bound: Bound) -> UnitParts
@@ -86,6 +98,17 @@ impl UnitParts {
             Ok(tree) => Ok(tree),
             // It was read before, so memory alone is wanting.
             Err(_) => Err(Memory),
+        }
+    }
+
+    /// Where the unit begins, if it is one of GNU C.
+    pub(crate) fn gnu_begin(&self) -> Option<Pos>
+        ensures { result ≡ gnu_begin self.now }
+    {
+        if self.standard.is_gnu() {
+            Some(begin_of(self.text.toks()))
+        } else {
+            None
         }
     }
 

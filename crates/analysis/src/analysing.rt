@@ -13,6 +13,7 @@ ghost use Rattle.analysis.specs.Answers.{fault_of, reads_of};
 ghost use Rattle.analysis.specs.BroughtNumbers.{AreNumbers, all_brought};
 ghost use Rattle.analysis.specs.Carrying.{IsOver};
 ghost use Rattle.analysis.specs.Classes.{AreItsClasses};
+ghost use Rattle.analysis.specs.GnuUnits.{gnu_begin};
 ghost use Rattle.analysis.specs.Naming.{Names};
 ghost use Rattle.analysis.specs.Parts.{AreFirsts, AreMembers, Holds, IsPart, StandInFiles};
 ghost use Rattle.analysis.specs.Places.{is_read_only, place_at};
@@ -38,9 +39,9 @@ use crate::spelling::spelling;
 use c99_tree::Tree;
 use cs_base::{Files, Memory, Part, Pos, Tok};
 use eclass_map::Classes;
+use gnu_bind::Bound;
 use include_tree::{KeptFile, UnitText};
 pub use parting::AnalysisParts;
-use scope_bind::Bound;
 use std::alloc::Global;
 use std::marker::Model;
 use ws_file::Workspace;
@@ -184,6 +185,15 @@ impl Analysis {
         ensures { IfOk result (λ tree. option_map (λ u. u.tree) (slice_get self.now.value.units (unit - 1)) ≡ Some tree) }
     {
         self.accepted.units()[unit as usize - 1].tree(alloc)
+    }
+
+    /// Where a unit begins, if it is one of GNU C.
+    pub fn gnu_begin(&self, unit: u32) -> Option<Pos>
+        requires first { 1 ≤ unit }
+        requires last { unit ≤ length self.now.value.units }
+        ensures { option_map gnu_begin (slice_get self.now.value.units (unit - 1)) ≡ Some result }
+    {
+        self.accepted.units()[unit as usize - 1].gnu_begin()
     }
 
     /// What the identifiers of a unit denote.

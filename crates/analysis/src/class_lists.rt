@@ -1,6 +1,6 @@
 // The classes of a table as lists, in the order of the places of their parts.
-ghost use Rattle.std.specs.Prelude.{◌≡◌, IfOk};
-ghost use Rattle.eclass_map.specs.ClassTable.{HasParts, members_of};
+ghost use Rattle.std.specs.Prelude.{IfOk};
+ghost use Rattle.eclass_map.specs.ClassTable.{HasParts};
 ghost use Rattle.analysis.specs.Analysed.{AreLists};
 ghost use Rattle.analysis.specs.Classes.{AreItsClasses};
 ghost use Rattle.analysis.specs.Listing.{AreOfClass};
@@ -31,21 +31,7 @@ fn parts_of(alloc: Global, a: &Accepted, classes: &Classes, class: u32) -> Resul
     requires { HasParts classes.now }
     ensures { IfOk result (λ parts. AreOfClass a.now classes.now class parts.items) }
 {
-    let mut parts = walked(alloc, classes, class)?;
+    let mut parts = classes.members(alloc, class)?;
     sort(a, &mut parts)?;
-    Ok(parts)
-}
-
-// The parts of a class, in the order of its walk.
-fn walked(alloc: Global, classes: &Classes, class: u32) -> Result<Vec<Part>, Memory>
-    requires { HasParts classes.now }
-    ensures { IfOk result (λ parts. parts.items ≡ members_of classes.now class) }
-{
-    let mut parts = Vec::new(alloc);
-    let mut next = classes.first_member(class);
-    while let Some(part) = next {
-        parts.push(part)?;
-        next = classes.next_member(part);
-    }
     Ok(parts)
 }

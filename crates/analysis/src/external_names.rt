@@ -1,15 +1,15 @@
 // The names of external linkage of each unit (ISO/IEC 9899:1999, 6.2.2).
 ghost use Rattle.std.specs.Prelude.{◌≡◌, IfOk};
-ghost use Rattle.c_types.specs.Declarations.{is_linkage};
-ghost use Rattle.c_types.specs.declared.entity.Linkage.TheVariants.{External};
+ghost use Rattle.gnu_bind.specs.Below.c_types.Declarations.{is_linkage};
+ghost use Rattle.gnu_bind.specs.Below.c_types.declared.entity.Linkage.TheVariants.{External};
 ghost use Rattle.analysis.specs.Links.{external_names_from, is_bound_to, is_external_name, names_of_unit, names_of_units};
 
 use crate::accepted::UnitParts;
 use crate::occurrences::count_of;
 use cs_base::{Memory, Text, Tok, Toks, Unit};
+use gnu_bind::{Bound, Linkage};
 use linkage_join::UnitNames;
 use macro_expand::shared;
-use scope_bind::{Bound, Linkage};
 use std::alloc::Global;
 
 /// The project and the external names of each unit, in order.

@@ -64,5 +64,5 @@ pub use tables::{
 };
 
 // Handed on: the types of this crate's own interface that crates below make.
+pub use gnu_bind::{Bound, EntityKind, Linkage, List, Name, Range};
 pub use include_tree::{Event, EventKind, KeptFile, Reached, UnitText};
-pub use scope_bind::{Bound, EntityKind, Linkage, List, Name, Range};

@@ -6,7 +6,7 @@ ghost use Rattle.analysis.specs.Links.{occurrence_links};
 use crate::joining::join_first;
 use cs_base::{Memory, Tok};
 use eclass_map::Classes;
-use scope_bind::Bound;
+use gnu_bind::Bound;
 use std::alloc::Global;
 
 /// Joins each token of a unit that is bound to an entity with the first one that is.

@@ -3,8 +3,8 @@ ghost use Rattle.std.specs.Prelude.{◌≡◌, IfErr};
 ghost use Rattle.std.specs.Option.{option_map};
 ghost use Rattle.cs_base.specs.Answer.{Gives, result_map_err};
 ghost use Rattle.c99_read.specs.Answer.{stop_of};
-ghost use Rattle.scope_bind.specs.Causes.{cause_of, index_of};
-ghost use Rattle.c_types.specs.Faults.{fault_of as name_fault_of};
+ghost use Rattle.gnu_bind.specs.Below.scope_bind.Causes.{cause_of, index_of};
+ghost use Rattle.gnu_bind.specs.Below.c_types.Faults.{fault_of as name_fault_of};
 ghost use Rattle.analysis.specs.Texts.{unit_fault};
 ghost use Rattle.analysis.specs.Answers.{fault_of};
 ghost use Rattle.analysis.specs.Analysis.{read_unit, bound_unit};
@@ -18,8 +18,8 @@ use crate::reading::read_toks;
 use c99_read::ReadRefusal;
 use c99_tree::Tree;
 use cs_base::{Cause, Standard, Tok};
+use gnu_bind::{BindRefusal, bind_by};
 use include_tree::{Cache, UnitText};
-use scope_bind::{BindRefusal, bind};
 use std::alloc::Global;
 
 /// Reads by this standard and binds unit `number` of this path, whose text this is, or names its fault. The cache has the
@@ -62,7 +62,7 @@ fn bind_text(
     ensures answer { Gives (λ u. u) fault_of result (result_map_err (unit_fault number) (bound_unit standard cache.now.table path.now text tree.now)) }
     ensures no_read { IfErr result IsNoReadFault }
 {
-    match bind(alloc, text.toks(), tree) {
+    match bind_by(alloc, text.toks(), tree, standard) {
         Ok(bound) => Ok(UnitParts::new(standard, text, tree, bound)),
         Err(refusal) => Err(refused(
             alloc,

@@ -54,9 +54,6 @@ some_bytes : (xs : List ℕ) → 0 < length xs → starts is_some_byte xs ≡ tr
 some_bytes [] lt = absurd (omega (arith, lt))
 some_bytes (x ∷ xs) lt = refl
 
-drop_some : (z : ℕ) (xs : List ℕ) → z < length xs → starts is_some_byte (drop z xs) ≡ true
-drop_some z xs lt = some_bytes (drop z xs) (let d = length-drop z xs in omega (arith, d, lt))
-
 module _ (file : ℕ) (bytes : List ℕ) (none : open_comment_of bytes ≡ None) where
   abbrev pub B : ℕ → ℕ
   B k = first_of bytes (tokens_of file bytes) k

@@ -37,11 +37,6 @@ shut_token (FoundToken u first ∷ fs) zero t shut there =
 shut_token (FoundToken u first ∷ fs) (suc k) t shut there = shut_token fs k t shut there
 shut_token (FoundOpen at ∷ fs) k t shut there = absurd cc
 
-shut_length : (fs : List Found) → list_all is_shut fs ≡ true → length (tokens_in fs) ≡ length fs
-shut_length [] shut = refl
-shut_length (FoundToken t first ∷ fs) shut = ap (λ (n : ℕ). suc n) (shut_length fs shut)
-shut_length (FoundOpen at ∷ fs) shut = absurd cc
-
 shut_placed : (fs : List Found) (k : ℕ) (t : Token) (first : Bool) → list_all is_shut fs ≡ true → slice_get fs k ≡ Some (FoundToken t first)
     → slice_get (placed (tokens_in fs) (firsts_in fs)) k ≡ Some (record { tok = t; first = first })
 shut_placed [] k t first shut there = absurd cc

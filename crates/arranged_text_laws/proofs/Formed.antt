@@ -160,10 +160,6 @@ Chain [] = ⊥
 Chain (s ∷ []) = s.begin < s.end
 Chain (s ∷ t ∷ more) = (s.begin < s.end) × (s.end < t.begin) × Chain (t ∷ more)
 
-pub chain_first : (s : Span) (more : List Span) → Chain (s ∷ more) → s.begin < s.end
-chain_first s [] h = h
-chain_first s (t ∷ more) h = h.0
-
 -- the spans of items, where the first begins with this element
 abbrev pub spans_at : ℕ → Items → List Span
 spans_at i ended = []

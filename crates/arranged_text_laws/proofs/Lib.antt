@@ -44,6 +44,5 @@ pub mod SameSigns
 pub mod FileRuns
 pub mod FileLaw
 pub mod Numbers
-pub mod ApartLemmas
 pub mod RunTokenLemmas
 pub mod SignLemmas

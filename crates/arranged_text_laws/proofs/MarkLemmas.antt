@@ -40,13 +40,6 @@ abbrev from_mark : ℕ → Bool → Front → Mark → List ℕ → Piece → �
 from_mark file gap front m chars piece size ms =
     found_in file m.line gap front m.at chars piece ∷ brought file (size - 1) (leaves_gap piece) (line_front_after chars front piece) ms
 
-one_mark : (file : ℕ) (gap : Bool) (front : Front) (m : Mark) (ms : List Mark)
-    → brought file 0 gap front (m ∷ ms)
-    ≡ from_mark file gap front m (m.byte ∷ text ms) (piece_of (expects_header front) m.byte (text ms))
-    (piece_length (suc (length ms)) (piece_of (expects_header front) m.byte (text ms))) ms
-unfolding brought
-one_mark file gap front m ms = refl
-
 joined : (stop : Bool) (file : ℕ) (ns : List Mark) (ys : List ℕ) → (stop ≡ true → begins_stop (text ns) ≡ true) → (stop ≡ true → begins_stop ys ≡ true)
     → (skip : ℕ) (gap : Bool) (front : Front) (ms : List Mark) → settles stop skip front (text ms) ys ≡ true
     → brought file skip gap front (ms ++ ns)

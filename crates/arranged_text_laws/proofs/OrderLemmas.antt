@@ -20,11 +20,6 @@ labelled label [] xss = xss
 labelled label (s ∷ ss) [] = []
 labelled label (s ∷ ss) (xs ∷ xss) = head_with (label s) xs ∷ labelled label ss xss
 
-pub length-labelled : {Y S : Type 0} (label : S → Y → Y) (ss : List S) (xss : List (List Y)) → length (labelled label ss xss) ≡ length xss
-length-labelled label [] xss = refl
-length-labelled label (s ∷ ss) [] = refl
-length-labelled label (s ∷ ss) (xs ∷ xss) = ap (λ (n : ℕ). suc n) (length-labelled label ss xss)
-
 labelled_at : {Y S : Type 0} (label : S → Y → Y) (ss : List S) (xss : List (List Y)) (k : ℕ) (d : S) → k < length ss → k < length xss
     → get_or (labelled label ss xss) k [] ≡ head_with (label (get_or ss k d)) (get_or xss k [])
 labelled_at label [] xss k d few many = absurd (omega (arith, few))

@@ -143,16 +143,6 @@ get_drop zero k xs = let same : k ≡ 0 + k = omega arith in ap (slice_get xs) s
 get_drop (suc i) k [] = refl
 get_drop (suc i) k (x ∷ xs) = let same : suc (i + k) ≡ suc i + k = omega arith in get_drop i k xs ∙ ap (slice_get (x ∷ xs)) same
 
--- what element q brings
-pub brought_at : (xss : List (List Found)) (q : ℕ) (f : Found) (fs : List Found) → get_or xss q [] ≡ f ∷ fs → slice_get (together xss) (weight (map length xss) q) ≡ Some f
-brought_at [] q f fs h = absurd cc
-brought_at (xs ∷ xss) zero f fs h = ap (λ (l : List Found). slice_get (l ++ together xss) 0) h
-brought_at (xs ∷ xss) (suc q) f fs h = past xs (together xss) (weight (map length xss) q) ∙ brought_at xss q f fs h
-  where
-    past : (xs ys : List Found) (k : ℕ) → slice_get (xs ++ ys) (length xs + k) ≡ slice_get ys k
-    past [] ys k = let same : 0 + k ≡ k = omega arith in ap (slice_get ys) same
-    past (x ∷ xs) ys k = let same : suc (length xs) + k ≡ suc (length xs + k) = omega arith in ap (slice_get (x ∷ (xs ++ ys))) same ∙ past xs ys k
-
 -- ---- quiet parts
 
 pub quiet_from : (skip : ℕ) (gap : Bool) (front : Front) (at : ℕ) (xs ys : List ℕ)

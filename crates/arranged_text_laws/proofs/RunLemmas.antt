@@ -29,10 +29,6 @@ abbrev pub later_lines : List Placed → List (List Token)
 later_lines [] = []
 later_lines (q ∷ qs) = cond q.first (all_lines (q ∷ qs)) (later_lines qs)
 
-all_none : all_lines [] ≡ []
-unfolding lines_of
-all_none = refl
-
 pub one_line : (p : Placed) (ps : List Placed) → all_lines (p ∷ ps) ≡ line_from p.tok ps ∷ later_lines ps
 unfolding lines_of
 one_line p [] = refl
@@ -85,12 +81,6 @@ onto_other line (next ∷ pieces) h = rw h refl
 run_before : (toks : List Token) (line : Piece) (pieces : List Piece) → is_run line.kind ≡ false
     → onto_pieces (piece Run toks) (onto_pieces line pieces) ≡ piece Run toks ∷ onto_pieces line pieces
 run_before toks line pieces h = rw (onto_other line pieces h) (rw h refl)
-
-run_none : (toks : List Token) → onto_pieces (piece Run toks) [] ≡ piece Run toks ∷ []
-run_none toks = refl
-
-run_joins : (toks more : List Token) (pieces : List Piece) → onto_pieces (piece Run toks) (piece Run more ∷ pieces) ≡ piece Run (toks ++ more) ∷ pieces
-run_joins toks more pieces = refl
 
 -- a run goes on to the next directive
 run_pieces : (u : List Token) (t : Token) (ps : List Placed)

@@ -16,5 +16,4 @@ pub mod Parts
 pub mod FileItems
 pub mod Lists
 pub mod Moving
-pub mod Apart
 pub mod RunTokens

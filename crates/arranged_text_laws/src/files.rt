@@ -1,5 +1,4 @@
 // What is true of files whose lists may move: laws that no caller runs, and that callers' proofs cite.
-ghost use Rattle.arranged_text_laws.specs.Apart.{ApartListsNest};
 ghost use Rattle.arranged_text_laws.specs.Moving.{FilesAreArranged, FilesMayMove, NumbersDoNotMatter};
 ghost use Rattle.arranged_text_laws.specs.RunTokens.{RunListsAreText, RunTokensAreText};
 
@@ -18,11 +17,6 @@ pub fn moved_files_are_arranged()
 /// It does not matter which number the file has.
 pub fn numbers_do_not_matter()
     ensures { NumbersDoNotMatter }
-{}
-
-/// Lists of a file of which each two stand behind one another, or one inside an item of the other, stand in one another.
-pub fn apart_lists_nest()
-    ensures { ApartListsNest }
 {}
 
 /// Each token of a run of a file stands in a text line and begins no directive line; so it is with a list whose tokens, from

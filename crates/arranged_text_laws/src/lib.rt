@@ -22,7 +22,6 @@ mod files;
 mod texts;
 
 pub use files::{
-    apart_lists_nest, files_may_move, moved_files_are_arranged, numbers_do_not_matter,
-    run_tokens_are_text,
+    files_may_move, moved_files_are_arranged, numbers_do_not_matter, run_tokens_are_text,
 };
 pub use texts::{files_are_arranged, items_stay, texts_join, texts_settle, tokens_are_arranged};

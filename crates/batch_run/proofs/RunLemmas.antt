@@ -1,7 +1,7 @@
 -- A batch behind some of its lines.
 use Rattle.std.proofs.Common.{◌≡◌, ◌++◌, ℕ, Bool, true, false, ◌||◌, List, [], ◌∷◌, Ok, refl, ap, sym, subst, ◌∙◌, append_assoc}
 use Rattle.std.specs.List.{flat_map, list_any}
-use Rattle.cs_base.specs.Edit.{Edit, with_edits}
+use Rattle.cs_base.specs.Edit.{Edit, IsKept, with_edits}
 use Rattle.cs_base.specs.Outside.{FileMap}
 use Rattle.batch_run.specs.Line.{LineValue}
 use Rattle.ws_file.specs.Workspace.{WorkspaceValue}
@@ -10,9 +10,13 @@ use Rattle.analysis.specs.Below.source_files.Tables.{AreFound, HasEachOnce}
 use Rattle.analysis.proofs.Below.source_files.AgreeLemmas.{some_source}
 use Rattle.analysis.specs.Analysis.{AnalysisValue, analysis_of}
 use Rattle.batch_run.specs.declared.stepping.Batching.{Batching}
-use Rattle.batch_run.specs.Batch.{Plan, IsLine, IsBatch, after, after_each, plan_text, is_refused}
-use Rattle.batch_run.specs.Keeping.{KeepsLine, KeepsLines}
-use Rattle.batch_run.specs.Stepping.{IsReady, RunTo, Steps}
+use Rattle.batch_run.specs.Batch.{Plan, IsAnswer, IsLine, IsBatch, after, after_each, plan_text, is_refused}
+use Rattle.batch_run.specs.Keeping.{KeepsLine, KeepsLines, KeepsSource, KeepBetween, Leaves}
+use Rattle.batch_run.specs.Stepping.{IsReady, LeaveSource, LeavesSource, RunTo, Steps}
+use Rattle.batch_run.specs.declared.running.Batched.{Batched}
+use Rattle.batch_run.specs.Running.{IsRunOver}
+use Rattle.edited_files.specs.Edited.{AreMade}
+use Rattle.batch_run.proofs.SourceLemmas.{made_once, none_made}
 use Rattle.batch_run.proofs.SettledAnalyses.{analysis_settles, kept_agree, kept_files}
 
 -- ---- the last of some lines
@@ -59,6 +63,22 @@ keeps_last ws files edits (l ∷ lines) (p ∷ plans) q plan batch keeps line = 
 keeps_last ws files edits [] (p ∷ plans) q plan batch keeps line = absurd batch
 keeps_last ws files edits (l ∷ lines) [] q plan batch keeps line = absurd batch
 
+-- the source that the last line finds is the one that those before it leave
+between_last : (ws : WorkspaceValue) (lines : List LineValue) (plans : List Plan) (q : LineValue) (plan : Plan) (before mid now : Source) → KeepBetween ws lines plans before mid
+    → IsAnswer ws mid q plan → Leaves plan mid now → KeepsSource ws q mid now plan → KeepBetween ws (lines ++ q ∷ []) (plans ++ plan ∷ []) before now
+between_last ws [] [] q plan before mid now keep answered leaves keeps =
+    subst (λ (s : Source). KeepBetween ws (q ∷ []) (plan ∷ []) s now) keep
+    (record { answered = answered; now = now; leaves = leaves; keeps = keeps; then_ = refl })
+between_last ws (l ∷ lines) (p ∷ plans) q plan before mid now keep answered leaves keeps = record {
+  answered = keep.answered;
+  now = keep.now;
+  leaves = keep.leaves;
+  keeps = keep.keeps;
+  then_ = between_last ws lines plans q plan keep.now mid now keep.then_ answered leaves keeps;
+}
+between_last ws [] (p ∷ plans) q plan before mid now keep answered leaves keeps = absurd keep
+between_last ws (l ∷ lines) [] q plan before mid now keep answered leaves keeps = absurd keep
+
 -- ---- a batch behind some lines
 
 -- none yet
@@ -69,6 +89,7 @@ run_none ws s = record {
   refused = sym (or_false s.refused);
   edits = refl;
   over = λ files over. (tt, tt, over);
+  source = λ before analysed. record { now = before; keeps = refl; analysed = analysed; holds = λ origin earlier. earlier };
 }
 
 -- it can go on
@@ -96,6 +117,15 @@ run_more ws first s t lines q plan r step = record {
         keeps_last ws files first.edits lines r.plans q plan behind.0 behind.1 kept_so,
         step.goes_on files behind.2,
       );
+  source = λ before analysed.
+      let to : LeaveSource ws first lines r.plans s before = r.source before analysed in
+      let u : LeavesSource ws q plan s t to.now = step.source to.now to.analysed in
+      record {
+        now = u.now;
+        keeps = between_last ws lines r.plans q plan before to.now u.now to.keeps (s.analysis.value, to.analysed, step.answered) u.leaves u.keeps;
+        analysed = u.analysed;
+        holds = λ origin earlier. u.holds origin (to.holds origin earlier);
+      };
 }
 
 -- ---- its beginning and its end
@@ -115,3 +145,21 @@ run_first ws s once over none = (
   subst (λ (es : List Edit). analysis_of (source_of (with_edits es (kept_files s.analysis.value.table))) ws ≡ Ok s.analysis.value) (sym none)
       (kept_over ws s.analysis.value once over),
 )
+
+-- a batch that began without edits, over each source that has its analysis
+pub run_over : (ws : WorkspaceValue) (first s : Batching) (lines : List LineValue) (b : Batched) (r : RunTo ws first lines s) → first.edits ≡ [] → first.text.items ≡ []
+    → first.refused ≡ false → b.text.items ≡ s.text.items → b.refused ≡ s.refused → b.edits ≡ s.edits → IsKept b.edits
+    → (source : Source) → analysis_of source ws ≡ Ok first.analysis.value → IsRunOver ws lines b r.plans source
+run_over ws first s lines b r none empty accepted text refused edits sound source analysed =
+    let to : LeaveSource ws first lines r.plans s source = r.source source analysed in
+    let begun : AreMade first.edits source source = subst (λ (es : List Edit). AreMade es source source) (sym none) (none_made source) in
+    record {
+      analysed = (first.analysis.value, analysed);
+      meaning = λ now made.
+          let same : to.now ≡ now = made_once s.edits source to.now now (to.holds source begun) (subst (λ (es : List Edit). AreMade es source now) edits made) in
+          subst (λ (end : Source). KeepBetween ws lines r.plans source end) same to.keeps;
+      text = text ∙ r.text ∙ ap (λ (xs : List ℕ). xs ++ flat_map plan_text r.plans) empty;
+      refused = refused ∙ r.refused ∙ ap (λ (x : Bool). x || list_any is_refused r.plans) accepted;
+      edits = edits ∙ r.edits ∙ ap (after_each r.plans) none;
+      sound = sound;
+    }

@@ -177,8 +177,9 @@ searched_settles ctx file at s found None h = tt
 searched_settles ctx file at s found (Some path) h = open_settles ctx (place_in file at) path (record s { table = found.table }) h
 
 -- the file of a header
-pub header_settles : (ctx : Context) (file : SourceFile) (at : Pos) (header : Header) (s : State) → AreSettled s.table
-    → IfDone (Stays {A = SourceFile} AreSettled) (open_header ctx file at header s)
-header_settles ctx file at header s h =
-    let found : Searched = search ctx.source (candidates_of header file.path ctx.unit) s.table in
-    searched_settles ctx file at s found found.path (search_settles ctx.source (candidates_of header file.path ctx.unit) s.table h)
+pub header_settles : (ctx : Context) (file : SourceFile) (at : Pos) (next : Bool) (header : Header) (s : State) → AreSettled s.table
+    → IfDone (Stays {A = SourceFile} AreSettled) (open_header ctx file at next header s)
+header_settles ctx file at next header s h =
+    let paths = candidates_of next header s.behind file.path ctx.unit in
+    let found : Searched = search ctx.source paths s.table in
+    searched_settles ctx file at s found found.path (search_settles ctx.source paths s.table h)

@@ -1,26 +1,27 @@
 -- No file that was found stays unopened: include lines, items, files and units.
-use Rattle.std.proofs.Common.{ℕ, zero, suc, ◌+◌, ◌-◌, Bool, true, false, not, List, [], ◌∷◌, drop, Option, None, Some}
+use Rattle.std.proofs.Common.{ℕ, zero, suc, ◌+◌, ◌-◌, Bool, true, false, not, ◌&&◌, List, [], ◌∷◌, drop, Option, None, Some, Ok, Err}
 use Rattle.cs_base.specs.declared.positions.Pos.{Pos}
 use Rattle.cs_base.specs.Token.{Token}
 use Rattle.analysis.specs.Below.line_shape.declared.items.ItemKind.{ItemKind}
 use Rattle.analysis.specs.Below.line_shape.declared.items.ItemKind.TheVariants as kind
-use Rattle.cs_base.specs.Units.{UnitValue, defines_of}
+use Rattle.analysis.specs.Below.line_shape.declared.items.GnuLine.TheVariants as gnu
+use Rattle.cs_base.specs.Units.{UnitValue, is_gnu, defines_of}
+use Rattle.cs_base.specs.declared.causes.Cause.TheVariants.{BadDirective}
 use Rattle.analysis.specs.Below.source_files.Limits.{Limits}
 use Rattle.analysis.specs.Below.source_files.Files.{Source, SourceFile, Made, Carried, defines_path, asked}
 use Rattle.analysis.specs.Below.source_files.Opening.{Reader}
-use Rattle.analysis.specs.Below.source_files.Faults.{first_place}
-use Rattle.analysis.specs.Below.unit_steps.Notes.{Reaches, Entered}
-use Rattle.analysis.specs.Below.unit_steps.State.{Context, context, State, Outcome, only}
+use Rattle.analysis.specs.Below.source_files.Faults.{fault_at, first_place}
+use Rattle.analysis.specs.Below.unit_steps.Notes.{Reaches, Entered, ReadOnce}
+use Rattle.analysis.specs.Below.unit_steps.State.{Context, context, State, did, Outcome, only}
 use Rattle.analysis.specs.Below.include_tree.Sections.{Group, Processed, Awaited, Over, Skipped, Section, section, are_processed, group_of_else, Turn, Opens, GoesOn, GoesLast, Ends, Stays as Remains, turn_of}
-use Rattle.analysis.specs.Below.source_files.Search.{Header}
+use Rattle.analysis.specs.Below.source_files.Search.{Header, behind_of}
 use Rattle.analysis.specs.Below.include_tree.OpeningStep.{open_file}
 use Rattle.analysis.specs.Below.unit_steps.Expanding.{expanded_in}
-use Rattle.analysis.specs.Below.unit_steps.Conditions.{holds}
-use Rattle.analysis.specs.Below.unit_steps.Directives.{opens_with, operand_in, is_if}
-use Rattle.analysis.specs.Below.include_tree.Including.{open_header, Process, Inner, entered, included, include_of}
-use Rattle.analysis.specs.Below.unit_steps.IncludeNames.{header_or, computed_header, header_named}
-use Rattle.analysis.specs.Below.source_files.HeaderNames.{header_of_toks, is_header, header_in}
-use Rattle.analysis.specs.Below.include_tree.Walk.{ItemText, items_in, processed, Stepped, stepped, go_on, opens, goes_on, reaching_alive, in_section, turned, item_step, file_end, walk, file_items}
+use Rattle.analysis.specs.Below.unit_steps.Directives.{opens_with, goes_with, operand_in, is_if, says_once, said_once, pragma_of, is_read_once}
+use Rattle.analysis.specs.Below.include_tree.Including.{open_header, Process, Inner, left_to, entered, unless_once, included, include_of, include_next_of}
+use Rattle.analysis.specs.Below.unit_steps.IncludeNames.{header_or, computed_header, header_named, written_header, next_named}
+use Rattle.analysis.specs.Below.source_files.HeaderNames.{header_of_toks, is_header, header_in, header_at, begins_header}
+use Rattle.analysis.specs.Below.include_tree.Walk.{ItemText, items_in, processed, Stepped, stepped, go_on, opens, goes_on, reaching_alive, in_section, turned, is_foreign, foreign_line, item_step, file_end, walk, file_items}
 use Rattle.analysis.specs.Below.include_tree.Unit.{first_state, outer_file, main_file, unit_outcome}
 use Rattle.analysis.specs.Below.include_tree.Laws.{IfDone}
 use Rattle.analysis.proofs.Below.include_tree.OutcomeLemmas.{noted_done, onward_done, cond_done}
@@ -56,35 +57,71 @@ abbrev pub InnerSettles : Inner → Type 0
 InnerSettles None = Unit {0}
 InnerSettles (Some process) = ProcessSettles process
 
-entered_settles : (process : Process) → ProcessSettles process → (at : Pos) (file : SourceFile) (s : State) → AreSettled s.table
-    → IfDone (Stays {A = List Token} AreSettled) (entered process at file s)
-entered_settles process p at file s h =
-    noted_done (Stays {A = List Token} AreSettled) (Entered at file.number s.before ∷ []) _
-    (onward_done (Stays {A = List Token} AreSettled) (Stays {A = List Token} AreSettled) (process file s) _ (p file s h) (λ toks t k. k))
+-- where a search for the next file of a name begins, and which files are read once, are no part of the table
+left_settles : (behind : Option ℕ) (m : Outcome (List Token)) → IfDone (Stays {A = List Token} AreSettled) m → IfDone (Stays {A = List Token} AreSettled) (left_to behind m)
+left_settles behind (Ok d) h = h
+left_settles behind (Err found) h = tt
 
-included_settles : (ctx : Context) (inner : Inner) → InnerSettles inner → (file : SourceFile) (at : Pos) (header : Header) (s : State)
-    → AreSettled s.table → IfDone (Stays {A = List Token} AreSettled) (included ctx inner file at header s)
-included_settles ctx None p file at header s h = tt
-included_settles ctx (Some process) p file at header s h =
-    onward_done (Stays {A = SourceFile} AreSettled) (Stays {A = List Token} AreSettled) (open_header ctx file at header s) (entered process at)
-    (found_settles ctx file at header s h) (λ f t g. entered_settles process p at f t g)
+passes_settle : (process : Process) → ProcessSettles process → (at : Pos) → ProcessSettles (unless_once at process)
+passes_settle process p at file s h =
+    cond_done (Stays {A = List Token} AreSettled) (is_read_once file.number s) (Ok (did [] (ReadOnce true at file.number s.before ∷ []) s)) (process file s) h (p file s h)
+
+pragma_settles : (gnu_ : Bool) (file : SourceFile) (at : Pos) (toks : List Token) (s : State) → AreSettled s.table
+    → IfDone (Stays {A = List Token} AreSettled) (pragma_of gnu_ file at toks s)
+pragma_settles gnu_ file at toks s h = cond_done (Stays {A = List Token} AreSettled) (gnu_ && says_once toks) (said_once file at s) (only [] s) h h
+
+entered_settles : (process : Process) → ProcessSettles process → (at : Pos) (behind : Option ℕ) (file : SourceFile) (s : State) → AreSettled s.table
+    → IfDone (Stays {A = List Token} AreSettled) (entered process at behind file s)
+entered_settles process p at behind file s h =
+    let inside : State = record s { behind = behind } in
+    noted_done (Stays {A = List Token} AreSettled) (Entered at file.number s.before ∷ []) _
+    (left_settles s.behind _
+    (onward_done (Stays {A = List Token} AreSettled) (Stays {A = List Token} AreSettled) (process file inside) _ (p file inside h) (λ toks t k. k)))
+
+included_settles : (ctx : Context) (inner : Inner) → InnerSettles inner → (file : SourceFile) (at : Pos) (next : Bool) (header : Header) (s : State)
+    → AreSettled s.table → IfDone (Stays {A = List Token} AreSettled) (included ctx inner file at next header s)
+included_settles ctx None p file at next header s h = tt
+included_settles ctx (Some process) p file at next header s h =
+    let place_of : SourceFile → Option ℕ = λ f. behind_of next header s.behind file.path ctx.unit f.path in
+    onward_done (Stays {A = SourceFile} AreSettled) (Stays {A = List Token} AreSettled) (open_header ctx file at next header s)
+    (λ f t. entered (unless_once at process) at (place_of f) f t)
+    (found_settles ctx file at next header s h) (λ f t g. entered_settles (unless_once at process) (passes_settle process p at) at (place_of f) f t g)
 
 include_settles : (ctx : Context) (inner : Inner) → InnerSettles inner → (file : SourceFile) (at : Pos) (toks : List Token) (s : State)
     → AreSettled s.table → IfDone (Stays {A = List Token} AreSettled) (include_of ctx inner file at toks s)
 include_settles ctx inner p file at toks s h =
-    onward_done (Stays {A = Header} AreSettled) (Stays {A = List Token} AreSettled) (header_named file at (drop 2 toks) s) (included ctx inner file at)
-    (header_settles file at (drop 2 toks) s h) (λ header t g. included_settles ctx inner p file at header t g)
+    onward_done (Stays {A = Header} AreSettled) (Stays {A = List Token} AreSettled) (header_named file at (drop 2 toks) s) (included ctx inner file at false)
+    (header_settles file at (drop 2 toks) s h) (λ header t g. included_settles ctx inner p file at false header t g)
+
+written_settles : (file : SourceFile) (at : Pos) (s : State) (o : Option Header) → AreSettled s.table → IfDone (Stays {A = Header} AreSettled) (written_header file at s o)
+written_settles file at s None h = tt
+written_settles file at s (Some header) h = h
+
+next_settles : (file : SourceFile) (at : Pos) (toks : List Token) (s : State) → AreSettled s.table → IfDone (Stays {A = Header} AreSettled) (next_named file at toks s)
+next_settles file at toks s h =
+    cond_done (Stays {A = Header} AreSettled) (begins_header toks) (written_header file at s (header_at toks)) (computed_header file at toks s)
+    (written_settles file at s (header_at toks) h) (computed_settles file at toks s h)
+
+include_next_settles : (ctx : Context) (inner : Inner) → InnerSettles inner → (file : SourceFile) (at : Pos) (toks : List Token) (s : State)
+    → AreSettled s.table → IfDone (Stays {A = List Token} AreSettled) (include_next_of ctx inner file at toks s)
+include_next_settles ctx inner p file at toks s h =
+    onward_done (Stays {A = Header} AreSettled) (Stays {A = List Token} AreSettled) (next_named file at (drop 2 toks) s) (included ctx inner file at true)
+    (next_settles file at (drop 2 toks) s h) (λ header t g. included_settles ctx inner p file at true header t g)
 
 -- ---- items
 
 processed_settles : (ctx : Context) (inner : Inner) → InnerSettles inner → (file : SourceFile) (k : ItemKind) (at : Pos) (toks : List Token) (s : State)
     → AreSettled s.table → IfDone (Stays {A = List Token} AreSettled) (processed ctx inner file k at toks s)
 processed_settles ctx inner p file kind.Run at toks s h = run_stays AreSettled ctx file toks s h
-processed_settles ctx inner p file kind.Define at toks s h = define_stays AreSettled file at toks s h
+processed_settles ctx inner p file kind.Define at toks s h = define_stays AreSettled (is_gnu ctx.unit.standard) file at toks s h
 processed_settles ctx inner p file kind.Undef at toks s h = undef_stays AreSettled file at toks s h
 processed_settles ctx inner p file kind.Include at toks s h = include_settles ctx inner p file at toks s h
 processed_settles ctx inner p file kind.Error at toks s h = tt
 processed_settles ctx inner p file (kind.Bad cause place nests) at toks s h = tt
+processed_settles ctx inner p file (kind.Gnu gnu.IncludeNext) at toks s h = include_next_settles ctx inner p file at toks s h
+processed_settles ctx inner p file (kind.Gnu gnu.Message) at toks s h = h
+processed_settles ctx inner p file (kind.Gnu gnu.Elifdef) at toks s h = h
+processed_settles ctx inner p file (kind.Gnu gnu.Elifndef) at toks s h = h
 processed_settles ctx inner p file kind.If at toks s h = h
 processed_settles ctx inner p file kind.Ifdef at toks s h = h
 processed_settles ctx inner p file kind.Ifndef at toks s h = h
@@ -92,7 +129,7 @@ processed_settles ctx inner p file kind.Elif at toks s h = h
 processed_settles ctx inner p file kind.Else at toks s h = h
 processed_settles ctx inner p file kind.Endif at toks s h = h
 processed_settles ctx inner p file kind.Line at toks s h = h
-processed_settles ctx inner p file kind.Pragma at toks s h = h
+processed_settles ctx inner p file kind.Pragma at toks s h = pragma_settles (is_gnu ctx.unit.standard) file at toks s h
 processed_settles ctx inner p file kind.Empty at toks s h = h
 
 opens_with_settles : (k : ItemKind) (file : SourceFile) (at : Pos) (toks : List Token) (s : State) → AreSettled s.table
@@ -101,6 +138,7 @@ opens_with_settles kind.If file at toks s h = holds_stays AreSettled file at (dr
 opens_with_settles kind.Ifdef file at toks s h = asks_stays AreSettled file at (λ b. b) s (operand_in toks) h
 opens_with_settles kind.Ifndef file at toks s h = asks_stays AreSettled file at not s (operand_in toks) h
 opens_with_settles (kind.Bad cause place nests) file at toks s h = tt
+opens_with_settles (kind.Gnu line) file at toks s h = tt
 opens_with_settles kind.Run file at toks s h = tt
 opens_with_settles kind.Define file at toks s h = tt
 opens_with_settles kind.Undef file at toks s h = tt
@@ -121,11 +159,33 @@ opens_settles file k i sections s h =
     (onward_done (Stays {A = Bool} AreSettled) (Stays {A = Stepped} AreSettled) (opens_with i.kind file i.at i.toks s) _ (opens_with_settles i.kind file i.at i.toks s h) (λ b t g. g)))
     h
 
+goes_with_settles : (k : ItemKind) (file : SourceFile) (at : Pos) (toks : List Token) (s : State) → AreSettled s.table
+    → IfDone (Stays {A = Bool} AreSettled) (goes_with k file at toks s)
+goes_with_settles (kind.Gnu gnu.Elifdef) file at toks s h = asks_stays AreSettled file at (λ b. b) s (operand_in toks) h
+goes_with_settles (kind.Gnu gnu.Elifndef) file at toks s h = asks_stays AreSettled file at not s (operand_in toks) h
+goes_with_settles (kind.Gnu gnu.IncludeNext) file at toks s h = tt
+goes_with_settles (kind.Gnu gnu.Message) file at toks s h = tt
+goes_with_settles (kind.Bad cause place nests) file at toks s h = holds_stays AreSettled file at (drop 2 toks) s h
+goes_with_settles kind.Run file at toks s h = holds_stays AreSettled file at (drop 2 toks) s h
+goes_with_settles kind.Define file at toks s h = holds_stays AreSettled file at (drop 2 toks) s h
+goes_with_settles kind.Undef file at toks s h = holds_stays AreSettled file at (drop 2 toks) s h
+goes_with_settles kind.If file at toks s h = holds_stays AreSettled file at (drop 2 toks) s h
+goes_with_settles kind.Ifdef file at toks s h = holds_stays AreSettled file at (drop 2 toks) s h
+goes_with_settles kind.Ifndef file at toks s h = holds_stays AreSettled file at (drop 2 toks) s h
+goes_with_settles kind.Elif file at toks s h = holds_stays AreSettled file at (drop 2 toks) s h
+goes_with_settles kind.Else file at toks s h = holds_stays AreSettled file at (drop 2 toks) s h
+goes_with_settles kind.Endif file at toks s h = holds_stays AreSettled file at (drop 2 toks) s h
+goes_with_settles kind.Include file at toks s h = holds_stays AreSettled file at (drop 2 toks) s h
+goes_with_settles kind.Line file at toks s h = holds_stays AreSettled file at (drop 2 toks) s h
+goes_with_settles kind.Error file at toks s h = holds_stays AreSettled file at (drop 2 toks) s h
+goes_with_settles kind.Pragma file at toks s h = holds_stays AreSettled file at (drop 2 toks) s h
+goes_with_settles kind.Empty file at toks s h = holds_stays AreSettled file at (drop 2 toks) s h
+
 goes_on_settles : (file : SourceFile) (k : ℕ) (i : ItemText) (open_ : Section) (sections : List Section) (s : State) (g : Group) → AreSettled s.table
     → IfDone (Stays {A = Stepped} AreSettled) (goes_on file k i open_ sections s g)
 goes_on_settles file k i open_ sections s Awaited h =
     noted_done (Stays {A = Stepped} AreSettled) (Reaches file.number k true s.before ∷ []) _
-    (onward_done (Stays {A = Bool} AreSettled) (Stays {A = Stepped} AreSettled) (holds file i.at (drop 2 i.toks) s) _ (holds_stays AreSettled file i.at (drop 2 i.toks) s h) (λ b t g. g))
+    (onward_done (Stays {A = Bool} AreSettled) (Stays {A = Stepped} AreSettled) (goes_with i.kind file i.at i.toks s) _ (goes_with_settles i.kind file i.at i.toks s h) (λ b t g. g))
 goes_on_settles file k i open_ sections s Skipped h = h
 goes_on_settles file k i open_ sections s Processed h = h
 goes_on_settles file k i open_ sections s Over h = h
@@ -162,6 +222,14 @@ turned_settles ctx inner p file k i sections s Remains h =
     (onward_done (Stays {A = List Token} AreSettled) (Stays {A = Stepped} AreSettled) (processed ctx inner file i.kind i.at i.toks s) _ (processed_settles ctx inner p file i.kind i.at i.toks s h) (λ toks t g. g)))
     h
 
+-- a line that GNU C alone has, or an item as it is
+step_settles : (ctx : Context) (inner : Inner) → InnerSettles inner → (file : SourceFile) (k : ℕ) (i : ItemText) (sections : List Section) (s : State)
+    → AreSettled s.table → IfDone (Stays {A = Stepped} AreSettled) (item_step ctx inner file k i sections s)
+step_settles ctx inner p file k i sections s h =
+    cond_done (Stays {A = Stepped} AreSettled) (is_foreign ctx.unit.standard i.kind) (foreign_line file i sections s) (turned ctx inner file k i sections s (turn_of i.kind))
+    (cond_done (Stays {A = Stepped} AreSettled) (are_processed sections) (Err (fault_at file i.at BadDirective)) (only (stepped [] sections) s) tt h)
+    (turned_settles ctx inner p file k i sections s (turn_of i.kind) h)
+
 -- ---- files
 
 file_end_settles : (file : SourceFile) (sections : List Section) (s : State) → AreSettled s.table → IfDone (Stays {A = List Token} AreSettled) (file_end file sections s)
@@ -174,7 +242,7 @@ unfolding walk
 walk_settles ctx inner p file k [] sections s h = file_end_settles file sections s h
 walk_settles ctx inner p file k (i ∷ items) sections s h =
     onward_done (Stays {A = Stepped} AreSettled) (Stays {A = List Token} AreSettled) (item_step ctx inner file k i sections s) _
-    (turned_settles ctx inner p file k i sections s (turn_of i.kind) h)
+    (step_settles ctx inner p file k i sections s h)
     (λ d t g. onward_done (Stays {A = List Token} AreSettled) (Stays {A = List Token} AreSettled) (walk ctx inner file (k + 1) items d.sections t) _
     (walk_settles ctx inner p file (k + 1) items d.sections t g) (λ toks u f. f))
 

@@ -1,13 +1,16 @@
 -- One line of a batch: what it leaves, over all files that have its analysis.
-use Rattle.std.proofs.Common.{◌≡◌, ◌++◌, ℕ, Bool, true, false, ◌||◌, List, Some, Ok, Err, refl, sym, subst, ◌∙◌}
+use Rattle.std.proofs.Common.{◌≡◌, ◌++◌, Bool, true, false, ◌||◌, List, Some, Ok, Err, refl, sym, subst, ◌∙◌}
 use Rattle.cs_base.specs.declared.positions.Part.{Part}
 use Rattle.cs_base.specs.Edit.{Edit, with_edits, IsKept}
 use Rattle.cs_base.specs.Outside.{FileMap}
 use Rattle.batch_run.specs.Line.{LineValue}
-use Rattle.edited_files.specs.Edited.{with_each}
+use Rattle.edited_files.specs.Edited.{AreMade, with_each}
 use Rattle.edited_files.proofs.PutLemmas.{put_each}
+use Rattle.edited_files.proofs.MadeLemmas.{put_is_made}
+use Rattle.batch_run.proofs.SourceLemmas.{made, made_each, made_is_made}
 use Rattle.ws_file.specs.Workspace.{WorkspaceValue}
-use Rattle.analysis.specs.Analysis.{AnalysisValue}
+use Rattle.analysis.specs.Below.source_files.Files.{source_of}
+use Rattle.analysis.specs.Analysis.{AnalysisValue, analysis_of}
 use Rattle.analysis.specs.Naming.{Names}
 use Rattle.kept_analysis.specs.Following.{IsRenamedIn}
 use Rattle.renamed.specs.Rename.{RenamesOver}
@@ -34,7 +37,8 @@ pub accepted_steps : (ws : WorkspaceValue) (q : LineValue) (new : List Edit) (pa
     → Steps ws q (Ok new) old s
 accepted_steps ws q new part old s renames answered sound sound' named follows text_is refused_is edits_are =
     let a : AnalysisValue = old.analysis.value in
-    let put = λ (files : FileMap). put_each new old.edits files sound.sorted sound'.sorted in
+    let put = λ (files : FileMap).
+    put_is_made new (with_edits old.edits files) (with_edits (with_each new old.edits) files) (put_each new old.edits files sound.sorted sound'.sorted) in
     record {
       text_is = text_is;
       refused_is = refused_is ∙ or_false old.refused;
@@ -42,10 +46,23 @@ accepted_steps ws q new part old s renames answered sound sound' named follows t
       line = λ files over. (a, over, answered);
       keeps = λ files over.
           subst (λ (es : List Edit). KeepsLine ws q (with_edits old.edits files) (with_edits es files) (Ok new)) (sym edits_are)
-          (line_is_kept ws q a new renames (with_edits old.edits files) (with_edits (with_each new old.edits) files) over (put files));
+          (line_is_kept ws q a new renames (source_of (with_edits old.edits files)) (source_of (with_edits (with_each new old.edits) files)) over (put files));
       goes_on = λ files over.
           subst (λ (es : List Edit). IsOver ws files es s.analysis.value) (sym edits_are)
-          (analysis_goes_on ws q a new renames (with_edits old.edits files) (with_edits (with_each new old.edits) files) over (put files) part s.analysis.value named follows);
+          (analysis_goes_on ws q a new renames (source_of (with_edits old.edits files)) (source_of (with_edits (with_each new old.edits) files)) over (put files)
+          part s.analysis.value named follows);
+      answered = answered;
+      source = λ before analysed.
+          let edited : AreMade new before (made new before) = made_is_made new before sound.sorted in
+          record {
+            now = made new before;
+            leaves = edited;
+            keeps = line_is_kept ws q a new renames before (made new before) analysed edited;
+            analysed = analysis_goes_on ws q a new renames before (made new before) analysed edited part s.analysis.value named follows;
+            holds = λ first earlier.
+                subst (λ (es : List Edit). AreMade es first (made new before)) (sym edits_are)
+                (made_each new old.edits first before (made new before) sound.sorted sound'.sorted earlier edited);
+          };
     }
 
 -- a refused line
@@ -61,4 +78,12 @@ refused_steps ws q refusal old s answered text_is refused_is edits_are stays = r
   goes_on = λ files over.
       subst (λ (es : List Edit). IsOver ws files es s.analysis.value) (sym edits_are)
       (subst (λ (b : AnalysisValue). IsOver ws files old.edits b) (sym stays) over);
+  answered = answered;
+  source = λ before analysed. record {
+    now = before;
+    leaves = refl;
+    keeps = tt;
+    analysed = subst (λ (b : AnalysisValue). analysis_of before ws ≡ Ok b) (sym stays) analysed;
+    holds = λ first earlier. subst (λ (es : List Edit). AreMade es first before) (sym edits_are) earlier;
+  };
 }

@@ -6,10 +6,10 @@ use Rattle.command_words.specs.Message.{refused_line, offence_line, edited_lines
 use Rattle.batch_run.specs.Line.{LineValue}
 use Rattle.edited_files.specs.Edited.{with_each}
 use Rattle.ws_file.specs.Workspace.{WorkspaceValue}
-use Rattle.analysis.specs.Below.source_files.Files.{source_of}
+use Rattle.analysis.specs.Below.source_files.Files.{Source, source_of}
 use Rattle.analysis.specs.Analysis.{AnalysisValue, analysis_of}
 use Rattle.offences.specs.declared.refusals.Refusal.{Refusal}
-use Rattle.offences.specs.declared.refusals.Refusal.TheVariants.{BadName, NoName, NotAFunction, BadOrder, Offence}
+use Rattle.offences.specs.declared.refusals.Refusal.TheVariants.{BadName, NoName, NotAFunction, NotAMacro, BadOrder, Offence}
 use Rattle.rename_rules.specs.Renaming.{IsRenaming}
 
 -- the answer to a line: the edits of its renaming, or why it is refused
@@ -26,9 +26,13 @@ abbrev pub after_each : List Plan → List Edit → List Edit
 after_each [] edits = edits
 after_each (plan ∷ plans) edits = after_each plans (after plan edits)
 
--- A line over these files: their workspace is accepted, and the line is answered as the renaming that it asks for.
+-- A line over a source: its workspace is accepted, and the line is answered as the renaming that it asks for.
+abbrev pub IsAnswer : WorkspaceValue → Source → LineValue → Plan → Type 0
+IsAnswer ws source q plan = (a : AnalysisValue) × (analysis_of source ws ≡ Ok a) × IsRenaming a q.path q.line q.column q.name q.strings plan
+
+-- the same over these files
 abbrev pub IsLine : WorkspaceValue → FileMap → LineValue → Plan → Type 0
-IsLine ws files q plan = (a : AnalysisValue) × (analysis_of (source_of files) ws ≡ Ok a) × IsRenaming a q.path q.line q.column q.name q.strings plan
+IsLine ws files q plan = IsAnswer ws (source_of files) q plan
 
 -- The lines of a batch in order, and the answer to each, where files have the edits of the lines before. The workspace
 -- stays that of the beginning.
@@ -44,6 +48,7 @@ abbrev pub refusal_line : Refusal → List ℕ
 refusal_line BadName = refused_line (codes "bad name")
 refusal_line NoName = refused_line (codes "no name")
 refusal_line NotAFunction = refused_line (codes "not a function")
+refusal_line NotAMacro = refused_line (codes "not a macro")
 refusal_line BadOrder = refused_line (codes "bad order")
 refusal_line (Offence place cause) = offence_line place cause
 

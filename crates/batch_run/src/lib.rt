@@ -8,8 +8,9 @@
 //! line is answered as a rename is: with its edits, or with the first reason against it, and then it changes nothing.
 //! No file is read twice, and nothing is analysed twice: behind an accepted line the analysis goes on with the files as
 //! the line leaves them (`advance` of `kept_analysis`). The answer is the text that tells the lines, and one edit for
-//! each file that changes, as the last line leaves it; nothing is put here. What stands against a rename belongs to
-//! `rename_rules`. What wants memory may answer `Memory`.
+//! each file that changes, as the last line leaves it; nothing is put here. Each line keeps meaning, between the files as
+//! it finds them and as it leaves them, over all sources that agree with what was read (`specs/Keeping.antt`). What
+//! stands against a rename belongs to `rename_rules`. What wants memory may answer `Memory`.
 //!
 //! Read `specs/Reading.antt`, then `read.rt`; `specs/Batch.antt`, `specs/Keeping.antt`, `specs/Running.antt`, then
 //! `running.rt`.

@@ -2,15 +2,12 @@
 ghost use Rattle.std.specs.Prelude.{◌≡◌};
 
 use cs_base::Memory as NoMemory;
-use thiserror::Error;
 
 /// The first line that is bad, by its number from 1, or want of memory.
-#[derive(Debug, Drop, Error)]
+#[derive(Debug, Drop)]
 pub enum BatchRefusal {
     /// The line asks for no rename.
-    #[error("bad batch line {line}")]
     BadLine { line: u32 },
-    #[error("out of memory")]
     Memory,
 }
 

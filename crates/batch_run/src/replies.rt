@@ -28,6 +28,7 @@ pub fn push_refusal(text: &mut Vec<u8>, refusal: &Refusal) -> Result<(), Memory>
         Refusal::BadName => push_message(text, &[b"refused: ", b"bad name"]),
         Refusal::NoName => push_message(text, &[b"refused: ", b"no name"]),
         Refusal::NotAFunction => push_message(text, &[b"refused: ", b"not a function"]),
+        Refusal::NotAMacro => push_message(text, &[b"refused: ", b"not a macro"]),
         Refusal::BadOrder => push_message(text, &[b"refused: ", b"bad order"]),
         Refusal::Offence { place, cause } => push_offence(text, place, *cause),
     }

@@ -7,7 +7,7 @@ ghost use Rattle.analysis.specs.Analysis.{analysis_of};
 ghost use Rattle.analysis.specs.Answers.{reads_of};
 ghost use Rattle.analysis.specs.declared.analyse_fault.AnalyseFault.TheVariants.{Memory as no_memory};
 ghost use Rattle.batch_run.specs.Batch.{Plan};
-ghost use Rattle.batch_run.specs.Running.{IsRun, Runs};
+ghost use Rattle.batch_run.specs.Running.{IsRun, Runs, RunsAsRead, RunsOver};
 ghost use Rattle.batch_run.specs.Stepping.{IsReady, RunTo};
 
 use crate::batch_line::BatchLine;
@@ -36,6 +36,8 @@ pub fn run_batch<F: Files>(
     files: &mut F,
 ) -> Result<Batched, AnalyseFault>
     ensures answer { IfSome (F.told files.old).held (λ held. Runs ws.now held lines.now result) }
+    // Line by line it is so over every source that agrees with what was read, and over each that then holds the edits.
+    ensures meaning { IfOk result (RunsAsRead (F.told files.old).held ws.now lines.now) }
     ensures faults { ReadsOnly (F.told files.old) (F.told files.new) (reads_of result) }
 {
     match analyse(alloc, ws, files) {
@@ -53,6 +55,7 @@ fn all_lines(
 ) -> Result<Batched, AnalyseFault>
     requires { (source : Source) → AreFound source analysis.value.table → analysis_of source ws.now ≡ Ok analysis.value }
     ensures answer { (files : FileMap) → analysis_of (source_of files) ws.now ≡ Ok analysis.value → Runs ws.now files lines.now result }
+    ensures over { IfOk result (RunsOver ws.now lines.now analysis.value) }
     ensures memory { IfErr result (λ e. e ≡ no_memory) }
 {
     match run_lines(alloc, ws, lines, analysis) {
@@ -69,7 +72,8 @@ fn run_lines(
     analysis: Analysis,
 ) -> Result<Batched, Memory>
     requires { (source : Source) → AreFound source analysis.value.table → analysis_of source ws.now ≡ Ok analysis.value }
-    ensures { IfOk result (λ b. (plans : List Plan) × ((files : FileMap) → analysis_of (source_of files) ws.now ≡ Ok analysis.value → IsRun ws.now files lines.now b plans)) }
+    ensures files { IfOk result (λ b. (plans : List Plan) × ((files : FileMap) → analysis_of (source_of files) ws.now ≡ Ok analysis.value → IsRun ws.now files lines.now b plans)) }
+    ensures over { IfOk result (RunsOver ws.now lines.now analysis.value) }
 {
     // Each path of the analysis has one number.
     let _files = analysis.files();

@@ -2,7 +2,7 @@
 use Rattle.cs_base.specs.declared.ws_units.Standard.{Standard}
 use Rattle.cs_base.specs.declared.ws_units.Standard.TheVariants as standard
 use Rattle.c99_grammar.specs.declared.dialects.Dialect.{Dialect}
-use Rattle.c99_grammar.specs.declared.dialects.Dialect.TheVariants.{Iso}
+use Rattle.c99_grammar.specs.declared.dialects.Dialect.TheVariants.{Iso, Gnu}
 use Rattle.c99_grammar.specs.declared.dialects.Edition.{Edition}
 use Rattle.c99_grammar.specs.declared.dialects.Edition.TheVariants.{C99, C11}
 
@@ -13,6 +13,9 @@ edition standard.C11 = C11
 edition standard.Gnu99 = C11
 edition standard.Gnu11 = C11
 
--- Each standard is read by the grammar of its edition, those of GNU C too so far. None has that of gcc yet, which is `Gnu`.
+-- Each standard of ISO/IEC 9899 is read by the grammar of its edition, those of GNU C by that of gcc.
 abbrev pub dialect : Standard → Dialect
-dialect s = Iso (edition s)
+dialect standard.C99 = Iso C99
+dialect standard.C11 = Iso C11
+dialect standard.Gnu99 = Gnu
+dialect standard.Gnu11 = Gnu

@@ -1,6 +1,6 @@
 // Which grammar reads the C of a standard.
 ghost use Rattle.std.specs.Prelude.{◌≡◌};
-ghost use Rattle.c99_grammar.specs.Dialects.{dialect, edition};
+ghost use Rattle.c99_grammar.specs.Dialects.{dialect};
 
 use cs_base::Standard;
 
@@ -18,23 +18,15 @@ pub enum Dialect {
     Gnu,
 }
 
-impl Edition {
-    // The one that a standard follows.
-    fn of(standard: Standard) -> Edition
-        ensures { result ≡ edition standard }
-    {
-        match standard {
-            Standard::C99 => Edition::C99,
-            Standard::C11 | Standard::Gnu99 | Standard::Gnu11 => Edition::C11,
-        }
-    }
-}
-
 impl Dialect {
     /// The one that a standard is read by.
     pub fn of(standard: Standard) -> Dialect
         ensures { result ≡ dialect standard }
     {
-        Dialect::Iso(Edition::of(standard))
+        match standard {
+            Standard::C99 => Dialect::Iso(Edition::C99),
+            Standard::C11 => Dialect::Iso(Edition::C11),
+            Standard::Gnu99 | Standard::Gnu11 => Dialect::Gnu,
+        }
     }
 }

@@ -4,10 +4,9 @@ use Rattle.std.specs.List.{list_all}
 use Rattle.c99_grammar.specs.declared.dialects.Dialect.{Dialect}
 use Rattle.c99_grammar.specs.declared.dialects.Dialect.TheVariants.{Iso, Gnu}
 use Rattle.c99_grammar.specs.declared.dialects.Edition.{Edition}
-use Rattle.c99_grammar.specs.declared.dialects.Edition.TheVariants.{C99}
 use Rattle.c99_tree.specs.declared.production.Production.{Production}
 use Rattle.c99_tree.specs.declared.production.Production.TheVariants.{TranslationUnit, External, ExtRest, ExtTail, FunBody, Declaration, DeclRest, InitDecl, Sassert, Specs, Main, Mod, Qual, Word, StructSpec, SuRest, Members, Member, MemRest, Mdecl, EnumSpec, EnRest, Enumerators, Enumerator, Declarator, Pointer, Direct, Suffix, Bound, Params, Param, Pdecl, Pdirect, TypeName, Adecl, Adirect, Init, InitList, InitItem, Designator, Expr, Assign, Asgop, Cond, Lor, Land, Bor, Bxor, Band, Equal, Relate, Shift, Add, Mul, Cast, CastRest, Unary, SizeRest, SizeLit, Primary, Post, Args, Block, BlockItem, Statement, Sub, ForInit, AutoDecl, Attr, AttrItem, AttrWord, AsmName, Operand, Association, MemberPath, AsmPart, AsmOperand}
-use Rattle.c99_grammar.specs.Standard.{iso, grammar, c99}
+use Rattle.c99_grammar.specs.Standard.{iso, grammar}
 use Rattle.c99_grammar.proofs.StandardLemmas.{by_edition, by_dialect}
 use Rattle.c99_read.specs.Sound.{is_sound, IsSound}
 
@@ -180,6 +179,3 @@ grammar-sound std = record { sound = λ p. sound_at p std }
 
 pub iso-sound : (std : Edition) → IsSound (iso std)
 iso-sound std = grammar-sound (Iso std)
-
-pub c99-sound : IsSound c99
-c99-sound = iso-sound C99

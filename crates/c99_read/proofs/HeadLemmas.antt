@@ -1,9 +1,8 @@
 -- The open declarators: which of them gets the names of a scope.
-use Rattle.std.proofs.Common.{ℕ, zero, suc, ◌<◌, ◌≡◌, Bool, true, false, ◌==◌, List, [], ◌∷◌, length, get_or, slice_set, None, Some, position, unwrap_or, map, reverse, ◌+◌, refl, sym, ap, ◌∙◌, arith, nat_lt, inl, inr}
+use Rattle.std.proofs.Common.{ℕ, zero, suc, ◌<◌, ◌≡◌, Bool, true, false, ◌==◌, List, [], ◌∷◌, length, get_or, slice_set, None, Some, position, unwrap_or, refl, sym, ap, ◌∙◌, arith, nat_lt, inl, inr}
 use Rattle.std.specs.List.{position_or_len}
 use borrow.Author.Tests.{ltb-false}
 use Rattle.std.proofs.lemmas.Bool.{cases_Bool}
-use Rattle.std.proofs.lemmas.List.{length-map, length-reverse}
 use Rattle.std.proofs.lemmas.List.Sums.{fails_before_first}
 use Rattle.std.proofs.lemmas.List.Quantifiers.{position-Some}
 use Rattle.c99_read.specs.declared.names.Declaration.{Declaration}
@@ -56,10 +55,3 @@ given_names-kept count names heads k old new found held written =
     let given : Head → Head = λ h. record h { given = Some (unwrap_or h.given names) } in
     let same : new ≡ given (get_or heads k old) = written ∙ ap given held in
     ap (slice_set heads k) same ∙ sym (given_names-at count names heads k old found)
-
-pub head-within : (count : ℕ) (heads : List Head) (k : ℕ) → position (λ h. h.scopes_open == count) heads ≡ Some k → k < length heads
-head-within count heads k found =
-    (position-Some (λ h. h.scopes_open == count) heads k (record { scopes_open = 0; given = None }) found).0
-
-pub scopes-counted : {A B : Type 0} (f : A → B) (x : B) (outer : List A) → length outer + 1 ≡ length (x ∷ map f (reverse outer))
-scopes-counted f x outer = omega (arith, length-map (reverse outer) f, length-reverse outer)

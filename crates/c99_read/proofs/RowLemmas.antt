@@ -1,5 +1,5 @@
 -- What the rows of the table need so that they can be read.
-use Rattle.std.proofs.Common.{ℕ, ◌+◌, ◌≡◌, ◌<◌, ◌≤◌, Bool, true, false, if◌then◌else◌, nat_lt, List, [], ◌∷◌, Option, None, Some, refl, subst, lit<, arith}
+use Rattle.std.proofs.Common.{ℕ, ◌+◌, ◌≡◌, ◌<◌, ◌≤◌, Bool, true, false, if◌then◌else◌, nat_lt, List, [], ◌∷◌, Option, None, Some, refl, subst, arith}
 use Rattle.std.specs.List.{list_all}
 use Rattle.std.proofs.lemmas.Bool.{and_parts, ltb-true}
 use Rattle.c99_grammar.specs.declared.dialects.Dialect.{Dialect}
@@ -15,85 +15,6 @@ use Rattle.c99_read.specs.Sound.{has_token, is_low}
 use Rattle.c99_grammar.specs.Standard.{Grammar, grammar}
 use Rattle.c99_grammar.proofs.StandardLemmas.{by_edition, by_dialect}
 use Rattle.c99_read.specs.State.{State}
-
-pub level-small : (p : Production) → level_of p < 20
-level-small TranslationUnit = lit< tt
-level-small External = lit< tt
-level-small ExtRest = lit< tt
-level-small ExtTail = lit< tt
-level-small FunBody = lit< tt
-level-small Declaration = lit< tt
-level-small DeclRest = lit< tt
-level-small InitDecl = lit< tt
-level-small Sassert = lit< tt
-level-small Specs = lit< tt
-level-small Main = lit< tt
-level-small Mod = lit< tt
-level-small Qual = lit< tt
-level-small Word = lit< tt
-level-small StructSpec = lit< tt
-level-small SuRest = lit< tt
-level-small Members = lit< tt
-level-small Member = lit< tt
-level-small MemRest = lit< tt
-level-small Mdecl = lit< tt
-level-small EnumSpec = lit< tt
-level-small EnRest = lit< tt
-level-small Enumerators = lit< tt
-level-small Enumerator = lit< tt
-level-small Declarator = lit< tt
-level-small Pointer = lit< tt
-level-small Direct = lit< tt
-level-small Suffix = lit< tt
-level-small Bound = lit< tt
-level-small Params = lit< tt
-level-small Param = lit< tt
-level-small Pdecl = lit< tt
-level-small Pdirect = lit< tt
-level-small TypeName = lit< tt
-level-small Adecl = lit< tt
-level-small Adirect = lit< tt
-level-small Init = lit< tt
-level-small InitList = lit< tt
-level-small InitItem = lit< tt
-level-small Designator = lit< tt
-level-small Expr = lit< tt
-level-small Assign = lit< tt
-level-small Asgop = lit< tt
-level-small Cond = lit< tt
-level-small Lor = lit< tt
-level-small Land = lit< tt
-level-small Bor = lit< tt
-level-small Bxor = lit< tt
-level-small Band = lit< tt
-level-small Equal = lit< tt
-level-small Relate = lit< tt
-level-small Shift = lit< tt
-level-small Add = lit< tt
-level-small Mul = lit< tt
-level-small Cast = lit< tt
-level-small CastRest = lit< tt
-level-small Unary = lit< tt
-level-small SizeRest = lit< tt
-level-small SizeLit = lit< tt
-level-small Primary = lit< tt
-level-small Post = lit< tt
-level-small Args = lit< tt
-level-small Block = lit< tt
-level-small BlockItem = lit< tt
-level-small Statement = lit< tt
-level-small Sub = lit< tt
-level-small ForInit = lit< tt
-level-small AutoDecl = lit< tt
-level-small Attr = lit< tt
-level-small AttrItem = lit< tt
-level-small AttrWord = lit< tt
-level-small AsmName = lit< tt
-level-small Operand = lit< tt
-level-small Association = lit< tt
-level-small MemberPath = lit< tt
-level-small AsmPart = lit< tt
-level-small AsmOperand = lit< tt
 
 -- each alternative of the table is ready to be read
 abbrev AreReady : Production → Dialect → Type 0

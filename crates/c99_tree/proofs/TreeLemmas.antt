@@ -1,9 +1,8 @@
 -- The children of a tree as a list and as a forest.
-use Rattle.std.proofs.Common.{ℕ, zero, suc, ◌≡◌, ◌+◌, ◌-◌, ◌<◌, ◌≤◌, Bool, true, false, List, [], ◌∷◌, ◌++◌, length, get_or, None, Some, refl, sym, ap, subst, ◌∙◌, arith}
+use Rattle.std.proofs.Common.{ℕ, zero, suc, ◌≡◌, ◌+◌, ◌-◌, ◌<◌, ◌≤◌, Bool, true, false, List, [], ◌∷◌, ◌++◌, length, get_or, None, Some, refl, ap, subst, ◌∙◌, arith}
 use Rattle.std.proofs.lemmas.Bool.{false≢true}
-use Rattle.c99_tree.specs.Tree.{Forest, token, node, node_of, put, leaf, count_of, part_at, collapsed}
-use Rattle.c99_tree.specs.Children.{part_of, forest_of, led, led_count, is_lone}
-use Rattle.c99_tree.specs.declared.production.Label.{Label}
+use Rattle.c99_tree.specs.Tree.{token, node, put, count_of, part_at}
+use Rattle.c99_tree.specs.Children.{part_of, forest_of, led, led_count}
 use Rattle.c99_tree.specs.declared.tree.Branch.{Branch}
 use Rattle.c99_tree.specs.declared.tree.Branch.TheVariants.{Token, Inner}
 
@@ -31,14 +30,6 @@ part_at-none (b ∷ kids) zero past = absurd (omega arith)
 part_at-none (Token i ∷ kids) (suc k) past = part_at-none kids k (omega arith)
 part_at-none (Inner t ∷ kids) (suc k) past = part_at-none kids k (omega arith)
 
-pub collapsed-other : (label : Label) (first : ℕ) (kids : List Branch) → is_lone kids ≡ false
-    → collapsed (node_of label first (forest_of kids)) ≡ node_of label first (forest_of kids)
-collapsed-other label first [] other = refl
-collapsed-other label first (Token i ∷ kids) other = refl
-collapsed-other label first (Inner t ∷ []) other = cc
-collapsed-other label first (Inner t ∷ (Token i ∷ kids)) other = refl
-collapsed-other label first (Inner t ∷ (Inner u ∷ kids)) other = refl
-
 -- ---- With a token that may lead them
 
 pub count_of-led : (leads : Bool) (first : ℕ) (kids : List Branch) → leads ≡ true → count_of (led leads first (forest_of kids)) ≡ length kids + 1
@@ -55,23 +46,3 @@ pub led-push : (leads : Bool) (first : ℕ) (kids : List Branch) (b : Branch)
     → led leads first (forest_of (kids ++ b ∷ [])) ≡ put (led leads first (forest_of kids)) (part_of b)
 led-push true first kids b = ap (token first) (forest_of-push kids b)
 led-push false first kids b = forest_of-push kids b
-
-pub led-begun : (leads : Bool) (first index : ℕ) (kids : List Branch) → leads ≡ false → kids ≡ [] → index ≡ first
-    → led true first (forest_of kids) ≡ put (led leads first (forest_of kids)) (leaf index)
-led-begun leads first index kids off none same = rw (off, none, same) refl
-
-pub part_at-plain : (leads : Bool) (first k : ℕ) (f : Forest) → leads ≡ false → part_at f k ≡ part_at (led leads first f) k
-part_at-plain leads first k f off = ap (λ b. part_at (led b first f) k) (sym off)
-
-pub part_at-first : (leads : Bool) (first k : ℕ) (f : Forest) → leads ≡ true → k ≡ 0 → Some (leaf first) ≡ part_at (led leads first f) k
-part_at-first leads first k f on here = rw (on, here) refl
-
-pub part_at-behind : (leads : Bool) (first k : ℕ) (f : Forest) → leads ≡ true → 0 < k → part_at f (k - 1) ≡ part_at (led leads first f) k
-part_at-behind leads first zero f on some = absurd (omega arith)
-part_at-behind leads first (suc k) f on some =
-    let e : suc k - 1 ≡ k = omega arith in
-    ap (part_at f) e ∙ ap (λ b. part_at (led b first f) (suc k)) (sym on)
-
-pub collapsed-led : (leads : Bool) (label : Label) (first : ℕ) (kids : List Branch) → leads ≡ true
-    → collapsed (node_of label first (led leads first (forest_of kids))) ≡ node_of label first (led leads first (forest_of kids))
-collapsed-led leads label first kids on = rw on refl

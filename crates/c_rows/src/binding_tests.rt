@@ -1,13 +1,14 @@
 // The programs, read and bound.
 use crate::entity_rows::BOUND;
 use crate::fault_rows::FAULTS;
+use crate::gnu_entity_rows::BOUND_BY_GNU;
 use crate::list_rows::{KINDS, LISTS, PARAMETERS};
 use crate::refusals::unbound;
 use c99_read::{Dialect, Edition, read};
 use c99_tree::Tree;
 use cs_base::Tok;
 use lexer::lex;
-use scope_bind::{Bound, List, ParameterList, Range, bind, parameter_lists};
+use scope_bind::{BindRefusal, Bound, List, ParameterList, Range, bind, parameter_lists};
 use std::alloc::Global;
 use std::fmt::Write;
 use std::test::Fail;
@@ -136,12 +137,24 @@ fn answer(alloc: Global, asked: Asked, text: &[u8], dialect: Dialect) -> Result<
     }
 }
 
+fn bound_by(
+    alloc: Global,
+    toks: &[Tok],
+    tree: &Tree,
+    dialect: Dialect,
+) -> Result<Bound, BindRefusal> {
+    match dialect {
+        Dialect::Iso(_) => bind(alloc, toks, tree),
+        Dialect::Gnu => gnu_bind::bind(alloc, toks, tree),
+    }
+}
+
 fn answer_of(alloc: Global, asked: Asked, toks: &[Tok], dialect: Dialect) -> Result<String, Fail> {
     if toks.len() > 1000 {
         return Ok(format!(in alloc; "too long")?);
     }
     match read(alloc, toks, dialect) {
-        Ok(tree) => match bind(alloc, toks, &tree) {
+        Ok(tree) => match bound_by(alloc, toks, &tree, dialect) {
             Ok(bound) => told(alloc, asked, &tree, &bound, toks.len() as u32),
             Err(refusal) => Ok(unbound(alloc, refusal)?),
         },
@@ -197,5 +210,16 @@ fn worked_programs(rt: HostRuntime) -> Result<(), Fail> {
         Dialect::Iso(Edition::C99),
     )?;
     assert_eq!(rt; parameters.as_str(), "", "PARAMETERS");
+    Ok(())
+}
+
+#[test]
+fn programs_of_gnu_are_bound(rt: HostRuntime) -> Result<(), Fail> {
+    let entities = differing(rt.alloc(), Asked::Entities, &BOUND_BY_GNU, Dialect::Gnu)?;
+    assert_eq!(rt; entities.as_str(), "", "BOUND_BY_GNU");
+    let entities = differing(rt.alloc(), Asked::Entities, &BOUND, Dialect::Gnu)?;
+    assert_eq!(rt; entities.as_str(), "", "BOUND");
+    let faults = differing(rt.alloc(), Asked::Entities, &FAULTS, Dialect::Gnu)?;
+    assert_eq!(rt; faults.as_str(), "", "FAULTS");
     Ok(())
 }

@@ -7,7 +7,7 @@ use Rattle.c99_tree.specs.declared.production.Label.{Label}
 use Rattle.c99_tree.specs.declared.production.Production.TheVariants.{Suffix, Pointer}
 use Rattle.c_types.specs.Children.{from_child}
 use Rattle.c_types.specs.Types.{CType}
-use Rattle.c_types.specs.Trees.{is_node, is_list, first_token, suffixed}
+use Rattle.c_types.specs.Trees.{is_node, is_list, is_aside, first_token, suffixed}
 use Rattle.c_types.specs.Lists.{nearest_of}
 use Rattle.c_types.specs.Shapes.{first_node, inner_in, leading_token}
 use Rattle.c_types.specs.Fronts.{front_suffixed, is_front_pointer, front_nearest}
@@ -57,15 +57,12 @@ nearest_of-front =
     front (λ here behind. nearest_of here
     ≡ option_or (front_nearest here) (if is_front_pointer here then option_or (nearest_of behind) (Some None) else nearest_of behind)) refl
     (λ i rest. refl)
-    (λ l first under rest. nearest-case (is_node l Suffix) (is_node l Pointer) (if is_list l then Some under else None) (nearest_of under) (nearest_of rest))
+    (λ l first under rest. nearest-case (is_node l Suffix) (is_node l Pointer) (if is_list l then Some under else None)
+    (if is_aside l then None else nearest_of under) (nearest_of rest))
 
 -- what is nearest, where pointers that were read before stand farthest
 abbrev pub or_pointer : Bool → Option (Option Forest) → Option (Option Forest)
 or_pointer pointed nearest = option_or nearest (if pointed then Some None else None)
-
-pub or_pointer-not : (n : Option (Option Forest)) → or_pointer false n ≡ n
-or_pointer-not None = refl
-or_pointer-not (Some x) = refl
 
 pub or_pointer-found : (p q : Bool) (here behind whole found : Option (Option Forest)) (x : Option Forest) → or_pointer p here ≡ whole
     → here ≡ option_or found (if q then option_or behind (Some None) else behind) → found ≡ Some x → Some x ≡ whole

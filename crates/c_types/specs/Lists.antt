@@ -6,7 +6,7 @@ use Rattle.c99_tree.specs.declared.production.Label.{Label}
 use Rattle.c99_tree.specs.declared.production.Production.TheVariants.{ExtRest, InitDecl, Declarator, FunBody, Unary, Primary, Post, Params, Suffix, Pointer, Pdirect}
 use Rattle.c_types.specs.declared.lists.List.{List as NameList}
 use Rattle.c_types.specs.declared.lists.Range.{Range}
-use Rattle.c_types.specs.Trees.{name_below, is_node, is_at, is_list, first_token, last_token}
+use Rattle.c_types.specs.Trees.{name_below, is_node, is_at, is_list, is_aside, first_token, last_token}
 
 -- the tokens among some children with an odd number of children before them
 abbrev pub odd_tokens : ℕ → Forest → List ℕ
@@ -66,7 +66,8 @@ nearest_of none = None
 nearest_of (token i rest) = nearest_of rest
 nearest_of (node l first under rest) =
     if is_node l Suffix then Some (if is_list l then Some under else None)
-    else (if is_node l Pointer then option_or (nearest_of rest) (Some None) else option_or (nearest_of under) (nearest_of rest))
+    else (if is_node l Pointer then option_or (nearest_of rest) (Some None)
+    else option_or (if is_aside l then None else nearest_of under) (nearest_of rest))
 
 abbrev pub own_list : Option ℕ → Option (Option Forest) → List NameList
 own_list (Some name) (Some (Some list)) = list_of name list ∷ []

@@ -4,7 +4,7 @@ use Rattle.std.specs.Option.{option_or}
 use Rattle.c99_tree.specs.Tree.{Forest, none, token, node}
 use Rattle.c99_tree.specs.declared.production.Label.{Label}
 use Rattle.c99_tree.specs.declared.production.Production.{Production}
-use Rattle.c99_tree.specs.declared.production.Production.TheVariants.{Main, StructSpec, SuRest, Mod, Suffix, Direct, Declarator, Pdecl, Pdirect, Pointer, Primary}
+use Rattle.c99_tree.specs.declared.production.Production.TheVariants.{Main, StructSpec, SuRest, Mod, Suffix, Direct, Declarator, Pdecl, Pdirect, Pointer, Primary, Attr, AsmName}
 use Rattle.c99_tree.specs.contracts.production.ProductionPartialEq.TheImpl.{ghosts}
 use Rattle.c_types.specs.declared.frames.Words.{Words}
 use Rattle.c_types.specs.Types.{CType, pointer, array, function}
@@ -111,6 +111,10 @@ suffixed t (token i rest) = suffixed t rest
 suffixed t (node l first under rest) =
     if is_node l Suffix then (if l.alternative == 1 then array (suffixed t rest) else function (suffixed t rest)) else suffixed t rest
 
+-- attributes, and the name for the assembler (GNU C): they say nothing of the declared name
+abbrev pub is_aside : Label → Bool
+is_aside l = is_node l Attr || is_node l AsmName
+
 -- The type that a declarator, or a part of one, gives to its name, where t stands in front: pointers come first,
 -- then the suffixes behind what is in parentheses, then that.
 abbrev pub declarator_type : CType → Forest → CType
@@ -118,7 +122,8 @@ declarator_type t none = t
 declarator_type t (token i rest) = declarator_type t rest
 declarator_type t (node l first under rest) =
     if is_node l Pointer then declarator_type (pointer t) rest
-    else (if is_node l Suffix then suffixed t (node l first under rest) else declarator_type (suffixed t rest) under)
+    else (if is_node l Suffix then suffixed t (node l first under rest)
+    else (if is_aside l then declarator_type t rest else declarator_type (suffixed t rest) under))
 
 abbrev pub is_list : Label → Bool
 is_list l = is_at l Suffix 2

@@ -4,8 +4,9 @@ use crate::entity::{EntityKind, Linkage};
 use crate::types::CType;
 
 /// A name space (6.2.3): ordinary identifiers, tags, the members of each structure or union by its number,
-/// and the labels of each function by the token that begins its body. `Inner`: a name of an anonymous member of a
-/// structure or union, which is found among its members (C11, 6.7.2.1 paragraph 13); `Unnamed`: the place of one.
+/// and the labels of each function by the token that begins its body; labels that a block declares (GNU C) go by 0, where
+/// no body begins. `Inner`: a name of an anonymous member of a structure or union, which is found among its members (C11,
+/// 6.7.2.1 paragraph 13); `Unnamed`: the place of one.
 #[derive(Clone, Copy, Debug, PartialEq, Eq)]
 pub enum Space {
     Ordinary,

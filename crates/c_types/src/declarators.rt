@@ -9,7 +9,7 @@ ghost use Rattle.c_types.specs.Trees.{is_node, is_list, holds_name, has_name, na
 ghost use Rattle.c_types.specs.Lists.{nearest_of};
 ghost use Rattle.c_types.specs.Fronts.{front_suffixed, is_front_pointer, front_nearest};
 
-use crate::trees::{Part, child_at, is_at, is_list, is_node, last_token};
+use crate::trees::{Part, child_at, is_aside, is_at, is_list, is_node, last_token};
 use crate::types::CType;
 use c99_tree::{Label, Production, Tree};
 use cs_base::Memory;
@@ -142,6 +142,8 @@ fn typed_at(t: CType, tree: &Tree, k: u32) -> Result<(CType, bool), Memory>
                 Ok((t.pointer()?, false))
             } else if is_node(inner.label(), Production::Suffix) {
                 Ok((suffixed_from(t, tree, k)?, true))
+            } else if is_aside(inner.label()) {
+                Ok((t, false))
             } else {
                 let outside = suffixed_from(t, tree, k + 1)?;
                 Ok((declarator_type(outside, inner)?, true))
@@ -232,6 +234,8 @@ fn nearest_at(tree: &Tree, k: u32) -> Option<Option<&Tree>>
             if is_node(inner.label(), Production::Suffix) {
                 Some(as_nearest(inner))
             } else if is_node(inner.label(), Production::Pointer) {
+                None
+            } else if is_aside(inner.label()) {
                 None
             } else {
                 nearest(inner)

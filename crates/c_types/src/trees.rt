@@ -3,7 +3,7 @@ ghost use Rattle.std.specs.Prelude.{◌≡◌, ◌+◌, ◌||◌, ℕ, unwrap_or
 ghost use Rattle.std.specs.Option.{option_map};
 ghost use Rattle.c_types.specs.Children.{from_child, with_part, HasRoom, IsBelow, only_node, only_if};
 ghost use Rattle.c_types.specs.Shapes.{leading_token};
-ghost use Rattle.c_types.specs.Trees.{is_node, is_at, last_token, first_token, has_node, has_mod, has_at, has_untagged, is_anonymous, words_of, is_one, is_lone_main, is_text, is_list};
+ghost use Rattle.c_types.specs.Trees.{is_node, is_at, last_token, first_token, has_node, has_mod, has_at, has_untagged, is_anonymous, words_of, is_one, is_lone_main, is_text, is_list, is_aside};
 
 use crate::frames::Words;
 use c99_tree::{Child, Label, Production, Tree};
@@ -52,6 +52,13 @@ pub fn is_list(label: Label) -> bool
     ensures { result ≡ is_list label }
 {
     is_at(label, Production::Suffix, 2)
+}
+
+/// Attributes, and the name for the assembler.
+pub(crate) fn is_aside(label: Label) -> bool
+    ensures { result ≡ is_aside label }
+{
+    is_node(label, Production::Attr) || is_node(label, Production::AsmName)
 }
 
 /// The last token below the node, or the index given where there is none.

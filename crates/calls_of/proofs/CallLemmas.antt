@@ -1,10 +1,10 @@
 -- Edges and the calls that they are.
-use Rattle.std.proofs.Common.{◌≡◌, ℕ, ◌<◌, ◌^◌, true, false, ◌||◌, List, [], ◌∷◌, ◌++◌, length, get_or, Some, refl, sym, ap, subst, ◌∙◌, inl, inr, arith}
+use Rattle.std.proofs.Common.{◌≡◌, ℕ, ◌<◌, ◌^◌, true, false, ◌||◌, List, [], ◌∷◌, ◌++◌, length, get_or, Some, refl, sym, ap, subst, ◌∙◌, inl, inr}
 use Rattle.std.specs.Prelude.{◌==◌, All, Bool, slice_get}
 use Rattle.std.specs.List.{Contains, list_any}
 use Rattle.std.proofs.lemmas.Bool.{and_parts, or_cases, eqb-true, eq-eqb}
 use Rattle.std.proofs.lemmas.List.{get_or_default}
-use Rattle.std.proofs.lemmas.List.Elements.{All-contains, All-nil, All-push, Contains-append_left, Contains-push, Contains-push_cases}
+use Rattle.std.proofs.lemmas.List.Elements.{All-contains, All-push, Contains-append_left, Contains-push, Contains-push_cases}
 use Rattle.std.proofs.lemmas.List.Folds.{list_any-append, Any-from_list_any, list_any-from_Any}
 use Rattle.std.proofs.lemmas.Option.{same_Some, slice_get_within}
 use Rattle.calls_of.specs.declared.nodes.Node.{Node}
@@ -17,15 +17,6 @@ use Rattle.calls_of.specs.Numbers.{AreCalls, edge_cmp}
 use Rattle.calls_of.specs.Orders.{Orders}
 
 -- ---- one call more
-
-nothing : (c : Call) → Contains [] c → ⊥
-nothing c there = absurd (omega (arith, there.1))
-
-pub calls-none : (nodes : List Node) → AreCalls nodes [] []
-calls-none nodes = record {
-  within = All-nil (IsWithin (length nodes));
-  exactly = λ c. (λ led. absurd (let none : false ≡ true = led.led in cc), λ there. absurd (nothing c there));
-}
 
 module _ (nodes : List Node) (calls : List Call) (edges : List Edge) (c : Call) (e : Edge) (caller : slice_get nodes e.caller ≡ Some c.caller)
     (callee : slice_get nodes e.callee ≡ Some c.callee) (so_far : AreCalls nodes calls edges) where

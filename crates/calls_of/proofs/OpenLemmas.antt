@@ -1,15 +1,13 @@
 -- The table of open bodies, as bodies come into it.
-use Rattle.std.proofs.Common.{◌≡◌, ℕ, ◌+◌, ◌-◌, ◌<◌, ◌≤◌, All, Bool, true, false, List, [], ◌∷◌, ◌++◌, length, replicate, Option, None, Some, if◌then◌else◌, slice_set, slice_index_or, refl, sym, ap, subst, ◌∙◌, inl, inr, arith}
-use Rattle.std.specs.Prelude.{◌&&◌, find, nat_lt, nat_le}
+use Rattle.std.proofs.Common.{◌≡◌, ℕ, ◌+◌, ◌-◌, ◌<◌, ◌≤◌, All, true, false, List, [], ◌∷◌, ◌++◌, Option, None, Some, if◌then◌else◌, refl, sym, ap, subst, ◌∙◌, inl, inr, arith}
+use Rattle.std.specs.Prelude.{find, nat_lt, nat_le}
 use Rattle.std.specs.Option.{option_map, option_or}
 use Rattle.std.proofs.lemmas.Bool.{cases_Bool, cases_lt, le-ltb, leb-false, lt-leb, ltb-false}
-use Rattle.std.proofs.lemmas.List.{get_or-set_same, get_or-set_other, get_or-replicate, get_or_past, length-replicate}
 use Rattle.std.proofs.lemmas.List.Elements.{All-push}
 use Rattle.std.proofs.lemmas.List.Folds.{find-append}
 use Rattle.analysis.specs.Below.c_types.declared.lists.Range.{Range}
-use Rattle.analysis.proofs.Below.linkage_join.FirstsLemmas.{option_or-None}
 use Rattle.calls_of.specs.Calls.{is_open_behind}
-use Rattle.calls_of.specs.OpenBodies.{open_among, body_at, AreOpenIn, is_between, Opened}
+use Rattle.calls_of.specs.OpenBodies.{open_among, AreOpenIn, is_between, Opened}
 use Rattle.calls_of.proofs.OwnerLemmas.{option_map-or}
 
 -- ---- numbers between others
@@ -26,16 +24,7 @@ none_between from end before low = elim (cases_lt from before) [
   | inr not_behind ↦ rw (le-ltb from before (omega arith)) refl
 ]
 
-between_more : (from end before : ℕ) → (before < end) → is_between from (end + 1) before ≡ is_between from end before
-between_more from end before less = rw (below before end less, below before (end + 1) (omega arith)) refl
-
-between_past : (from end before : ℕ) → (end < before) → is_between from (end + 1) before ≡ is_between from end before
-between_past from end before less = rw (le-ltb before end (omega arith), le-ltb before (end + 1) (omega arith)) refl
-
 -- ---- one body
-
-pub opened-none : (name from : ℕ) (old : List (Option ℕ)) → Opened name from (from + 1) old old
-opened-none name from old before = rw (none_between from (from + 1) before (omega arith)) (sym (option_or-None (body_at old before)))
 
 -- the numbers up to the last one, if there are any
 pub opened-end : (name from to before : ℕ) (old new : List (Option ℕ)) → to + 1 ≤ before → before ≤ from + 1 + (to - from)
@@ -49,42 +38,7 @@ opened-end name from to before old new past most opened = elim (cases_lt from to
       λ k. opened k ∙ rw (none_between from before k low, none_between from (to + 1) k (omega arith)) refl
 ]
 
-pub opened-more : (name from end : ℕ) (old mid new : List (Option ℕ)) → from < end → end < length mid
-    → new ≡ slice_set mid end (option_or (slice_index_or mid end None) (Some name)) → Opened name from end old mid → Opened name from (end + 1) old new
-opened-more name from end old mid new behind within put opened before =
-    let o : Option ℕ = option_or (slice_index_or mid end None) (Some name) in
-    let at : body_at new before ≡ body_at (slice_set mid end o) before = ap (λ (t : List (Option ℕ)). body_at t before) put in
-    elim (cases_lt before end) [
-      | inl less ↦
-          at ∙ get_or-set_other mid end before o None (λ (e : before ≡ end). omega arith) ∙ opened before ∙ rw (between_more from end before less) refl
-      | inr not_less ↦ elim (cases_lt end before) [
-        | inl past ↦
-            at ∙ get_or-set_other mid end before o None (λ (e : before ≡ end). omega arith) ∙ opened before ∙ rw (between_past from end before past) refl
-        | inr not_past ↦
-            let same : before ≡ end = omega arith in
-            let here : body_at new end ≡ option_or (body_at old end) (Some name) =
-            ap (λ (t : List (Option ℕ)). body_at t end) put ∙ get_or-set_same mid end o None within
-            ∙ ap (λ (m : Option ℕ). option_or m (Some name)) (opened end ∙ rw (le-ltb end end (omega arith)) refl)
-            ∙ last (body_at old end) (nat_lt from end) in
-            let inside : is_between from (end + 1) end ≡ true = rw (below from end behind, below end (end + 1) (omega arith)) refl in
-            let P : ℕ → Type 0 = λ n. body_at new n ≡ option_or (body_at old n) (if is_between from (end + 1) n then Some name else None) in
-            subst P (sym same) (here ∙ rw inside refl)
-      ]
-    ]
-  where
-    last : (a : Option ℕ) (b : Bool) → option_or (option_or a (if b && false then Some name else None)) (Some name) ≡ option_or a (Some name)
-    last None true = refl
-    last None false = refl
-    last (Some x) true = refl
-    last (Some x) false = refl
-
 -- ---- all bodies
-
-pub open-none : (n : ℕ) → AreOpenIn (replicate n None) []
-open-none n before = elim (cases_lt before n) [
-  | inl within ↦ get_or-replicate n before None None within
-  | inr past ↦ get_or_past (replicate n None) before None (let long = length-replicate {A = Option ℕ} n None in omega arith)
-]
 
 at_most : (a b : ℕ) → a ≤ b → nat_le a b ≡ true
 at_most a b within = elim (cases_Bool (nat_le a b)) [

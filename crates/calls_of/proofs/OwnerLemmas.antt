@@ -9,7 +9,7 @@ use Rattle.std.proofs.lemmas.Grind.{flat_map-append}
 use Rattle.std.proofs.lemmas.List.Folds.{find-append}
 use Rattle.std.proofs.lemmas.Option.{slice_get-get_or}
 use Rattle.cs_base.specs.declared.positions.Pos.{Pos}
-use Rattle.cs_base.specs.Token.{Token, origin_at}
+use Rattle.cs_base.specs.Token.{Token}
 use Rattle.analysis.specs.Below.lexer.Places.{pos}
 use Rattle.analysis.specs.Below.source_files.Files.{Table, Entry, Absent, entry}
 use Rattle.analysis.specs.Below.source_files.KeptFiles.{kept_at}
@@ -49,18 +49,6 @@ grew-both xs ys old mid new first later p =
     ∙ ap (λ (o : Option Token). option_or o (owner_among ys p)) (first p)
     ∙ option_or-assoc (old p) (owner_among xs p) (owner_among ys p)
     ∙ ap (option_or (old p)) (sym (owner_among-append p xs ys))
-
--- one token more
-pub grew-at : (name tok : Token) (q : Pos) (old new : Owners) → origin_at tok 0 ≡ Some q
-    → ((p : Pos) → new p ≡ owner_with name q old p) → Grew (owned name tok ∷ []) old new
-grew-at name tok q old new at put p =
-    elim (cases_Bool (is_pos q p)) [
-      | inl here ↦ put p ∙ rw (at, here) refl
-      | inr apart ↦ put p ∙ rw (at, apart) refl
-    ]
-
-pub grew-nowhere : (name tok : Token) (old : Owners) → origin_at tok 0 ≡ None → Grew (owned name tok ∷ []) old old
-grew-nowhere name tok old at p = rw at (sym (option_or-None (old p)))
 
 -- ---- lists
 

@@ -55,9 +55,6 @@ start_next Begins R n t x l z walk long part next =
           (s.0.class, s.1 ∙ ap Some same)
     ]
 
-as_place : (R : ℕ → ℕ → Type 0) (p q r s : ℕ) → p ≡ r → q ≡ s → R p q → R r s
-as_place R p q r s e f h = let P : ℕ → Type 0 = λ v. R v q in let Q : ℕ → Type 0 = λ v. R r v in subst Q f (subst P e h)
-
 -- the pairs of a part
 part_pairs : (R : ℕ → ℕ → Type 0) (x y l c d : ℕ) (xs ys : List ℕ) → l ≤ c → l ≤ d
     → ((k p : ℕ) → k < c - 1 → p ≡ 0 + suc k → slice_get xs k ≡ Some (x + p)) → ((k p : ℕ) → k < d - 1 → p ≡ 0 + suc k → slice_get ys k ≡ Some (y + p))

@@ -1,5 +1,5 @@
 -- Walks as links.
-use Rattle.std.proofs.Common.{◌≡◌, ℕ, ◌+◌, ◌-◌, ◌<◌, ◌≤◌, List, [], ◌∷◌, ◌++◌, zero, suc, length, map, get_or, set, refl, ap, sym, ◌∙◌, inl, inr, arith, subst, Some, None}
+use Rattle.std.proofs.Common.{◌≡◌, ℕ, ◌+◌, ◌-◌, ◌<◌, ◌≤◌, List, [], ◌∷◌, ◌++◌, zero, suc, length, map, get_or, set, refl, ap, sym, ◌∙◌, inl, inr, arith, subst, Some}
 use Rattle.std.specs.Prelude.{slice_get}
 use Rattle.std.proofs.lemmas.List.{get_or-set_same, get_or-set_other, length-set}
 use Rattle.class_labels.specs.Table.{In, Distinct}
@@ -142,7 +142,3 @@ members_shifted shift (suc (suc n)) nexts now x distinct within =
 pub members_head : (n : ℕ) (nexts : List ℕ) (x : ℕ) → 0 < n → slice_get (members n nexts x) 0 ≡ Some x
 members_head zero nexts x h = absurd (omega arith)
 members_head (suc n) nexts x h = refl
-
-pub members_empty : (n : ℕ) (nexts : List ℕ) (x : ℕ) → n ≤ 0 → slice_get (members n nexts x) 0 ≡ None
-members_empty zero nexts x h = refl
-members_empty (suc n) nexts x h = absurd (omega arith)

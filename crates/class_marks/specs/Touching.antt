@@ -1,5 +1,5 @@
 -- What names touch a class, and where its members stand (this project's).
-use Rattle.std.specs.Prelude.{ℕ, ◌≡◌, true, Some, slice_get}
+use Rattle.std.specs.Prelude.{ℕ, ◌≡◌, ◌<◌, Bool, true, Some, List, length, slice_get, slice_index_or}
 use Rattle.cs_base.specs.declared.positions.Part.{Part}
 use Rattle.cs_base.specs.declared.positions.Pos.{Pos}
 use Rattle.cs_base.specs.Token.{Token, origin_at}
@@ -31,3 +31,8 @@ pub record IsReadOnlyClass (a : AnalysisValue) (part : Part) : Type 0 where
   pub member : Part
   pub is_member : IsMember a part member
   pub kept_from_edits : is_read_only a.table a.workspace.readonly member.start.file ≡ true
+
+-- of each file that has one of these numbers, whether it is read-only or a pseudo file
+abbrev pub AreReadOnly : AnalysisValue → List Bool → Type 0
+AreReadOnly a files =
+    (number : ℕ) (d : Bool) → number < length files → slice_index_or files number d ≡ is_read_only a.table a.workspace.readonly number

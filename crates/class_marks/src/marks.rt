@@ -212,14 +212,32 @@ fn is_set(marks: &[bool], class: u32) -> bool
     }
 }
 
-/// Whether the class of a part is marked: whether some name with the role of the marks touches it.
+/// The number of the class of a part.
+pub fn class_number(a: &Analysis, part: Part) -> Option<u32>
+    ensures { result ≡ class_in a.now.classes part }
+{
+    a.classes().class_of(part)
+}
+
+/// Whether the class of a part, which has this number, is marked: whether some name with the role of the marks touches it.
+pub fn is_class_marked(a: &Analysis, marks: &[bool], part: Part, class: Option<u32>) -> bool
+    requires part { IsPart a.now.value part }
+    requires class { class ≡ class_in a.now.classes part }
+    ensures { (role : Role) → AreMarked a.now.classes (names_with role a.now.value) marks.now
+        → MatchBool result (HasRole a.now.value role part) (HasRole a.now.value role part → ⊥) }
+{
+    let _classes = a.classes();
+    match class {
+        Some(class) => is_set(marks, class),
+        None => false,
+    }
+}
+
+/// The same, where its number is not known.
 pub fn is_marked(a: &Analysis, marks: &[bool], part: Part) -> bool
     requires { IsPart a.now.value part }
     ensures { (role : Role) → AreMarked a.now.classes (names_with role a.now.value) marks.now
         → MatchBool result (HasRole a.now.value role part) (HasRole a.now.value role part → ⊥) }
 {
-    match a.classes().class_of(part) {
-        Some(class) => is_set(marks, class),
-        None => false,
-    }
+    is_class_marked(a, marks, part, class_number(a, part))
 }

@@ -1,19 +1,45 @@
 // Classes with members in files that are not edited.
-ghost use Rattle.std.specs.Prelude.{MatchBool};
+ghost use Rattle.std.specs.Prelude.{◌≡◌, IfOk, MatchBool};
 ghost use Rattle.analysis.specs.Parts.{IsPart};
-ghost use Rattle.class_marks.specs.Touching.{IsReadOnlyClass};
+ghost use Rattle.analysis.specs.Places.{is_read_only};
+ghost use Rattle.class_marks.specs.Touching.{AreReadOnly, IsReadOnlyClass};
 
 use analysis::Analysis;
-use cs_base::Part;
+use cs_base::{Memory, Part};
+use std::alloc::Global;
+
+/// Of each file, by its number, whether it is read-only.
+pub fn read_only_files(alloc: Global, a: &Analysis) -> Result<Vec<bool>, Memory>
+    ensures { IfOk result (λ files. AreReadOnly a.now.value files.items) }
+{
+    let mut files = Vec::new(alloc);
+    for number in 0..a.files() {
+        files.push(a.read_only(number))?;
+    }
+    Ok(files)
+}
+
+// Whether the file with a number is.
+fn is_read_only(a: &Analysis, files: &[bool], number: u32) -> bool
+    requires { AreReadOnly a.now.value files.now }
+    ensures { result ≡ is_read_only a.now.value.table a.now.value.workspace.readonly number }
+{
+    if (number as usize) < files.len() {
+        files[number as usize]
+    } else {
+        a.read_only(number)
+    }
+}
 
 /// Whether some member of the class lies in a read-only file.
-pub fn has_read_only(a: &Analysis, part: Part) -> bool
-    requires { IsPart a.now.value part }
+pub fn has_read_only(a: &Analysis, files: &[bool], part: Part) -> bool
+    requires part { IsPart a.now.value part }
+    requires files { AreReadOnly a.now.value files.now }
     ensures { MatchBool result (IsReadOnlyClass a.now.value part) (IsReadOnlyClass a.now.value part → ⊥) }
 {
     let members = a.members(part);
     for member in members {
-        if a.read_only(member.start.file) {
+        if is_read_only(a, files, member.start.file) {
             return true;
         }
     }

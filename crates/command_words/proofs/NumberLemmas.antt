@@ -1,14 +1,11 @@
 -- Nine decimal digits spell a number below 10^9.
-use Rattle.std.proofs.Common.{◌≡◌, ℕ, Bool, true, ◌&&◌, zero, suc, [], ◌∷◌, ◌-◌, ◌+◌, ◌*◌, ◌<◌, ◌≤◌, ◌^◌, List, IsTrue, length, get_or, arith, add-one, lit<}
+use Rattle.std.proofs.Common.{◌≡◌, ℕ, Bool, true, ◌&&◌, zero, suc, [], ◌∷◌, ◌-◌, ◌<◌, ◌≤◌, ◌^◌, List, IsTrue, length, get_or, arith, lit<}
 use Rattle.std.proofs.lemmas.Bool.Decides.{nat_tests}
 use Rattle.std.specs.Char.{is_ascii_digit}
 use Rattle.std.specs.Str.{byte}
 use Rattle.command_words.specs.Request.{are_digits}
-use Rattle.std.proofs.Math.Nat.{pow-succ', pow-le-pow_right}
+use Rattle.std.proofs.Math.Nat.{pow-le-pow_right}
 use Rattle.std.proofs.lemmas.Bool.{and_parts}
-
-pub below_pow : (n d i : ℕ) → n < 10 ^ i → d ≤ 9 → 10 * n + d < 10 ^ (i + 1)
-below_pow n d i below digit = rw (add-one i, pow-succ' 10 i) (omega arith)
 
 pub pow_small : (i : ℕ) → i < 9 → 10 ^ i ≤ 100000000
 pow_small i small = let eight : i ≤ 8 = omega arith in pow-le-pow_right {n = 10} (lit< tt) eight

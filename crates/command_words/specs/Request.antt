@@ -45,6 +45,7 @@ class_at path line column = record { path = path; line = line; column = column }
 pub data EditValue : Type 0 where
   rename_asked : RenameValue → EditValue
   template_asked : TemplateValue → EditValue
+  macro_asked : TemplateValue → EditValue
 
 -- A report on an analysis: each writes a text. That of `find` has its query.
 pub data ReportValue : Type 0 where
@@ -54,13 +55,15 @@ pub data ReportValue : Type 0 where
   calls_asked : ReportValue
   find_asked : List ℕ → ReportValue
 
--- What is asked over a workspace: the tokens of the unit of a number, its skipped groups, a report, an edit, or the lines of
--- a batch file.
+-- What is asked over a workspace: the tokens of the unit of a number, its skipped groups, a check of its units, a report, an edit, a trim, which may
+-- tell what stays, or the lines of a batch file.
 pub data AskValue : Type 0 where
   tokens_asked : ℕ → AskValue
   skipped_asked : AskValue
+  check_asked : AskValue
   report_asked : ReportValue → AskValue
   edit_asked : EditValue → AskValue
+  trim_asked : Bool → AskValue
   batch_asked : List ℕ → AskValue
 
 -- What words ask for: a text of the program's own, the size of a generated workspace of so many units, or an ask over the
@@ -115,6 +118,13 @@ template_of path line column order =
     then Some (edit_asked (template_asked (template_at (normal_path_of path) (number_of line) (number_of column) (order_of order))))
     else None
 
+-- the words of a new order of a macro's parameters: the same
+abbrev pub macro_of : List ℕ → List ℕ → List ℕ → List ℕ → Option AskValue
+macro_of path line column order =
+    if is_number line && is_number column
+    then Some (edit_asked (macro_asked (template_at (normal_path_of path) (number_of line) (number_of column) (order_of order))))
+    else None
+
 -- the words of a report on a class: as those of a rename
 abbrev pub class_report_of : List ℕ → List ℕ → List ℕ → Option AskValue
 class_report_of path line column =
@@ -126,15 +136,18 @@ class_report_of path line column =
 abbrev pub command_alone : List ℕ → Option AskValue
 command_alone command =
     if bytes_eq command (codes "skipped") then Some skipped_asked
+    else (if bytes_eq command (codes "check") then Some check_asked
     else (if bytes_eq command (codes "unused") then Some (report_asked unused_asked)
     else (if bytes_eq command (codes "includes") then Some (report_asked includes_asked)
-    else (if bytes_eq command (codes "calls") then Some (report_asked calls_asked) else None)))
+    else (if bytes_eq command (codes "calls") then Some (report_asked calls_asked)
+    else (if bytes_eq command (codes "trim") then Some (trim_asked false) else None)))))
 
--- a command, and a query or a batch file, which is any word
+-- a command, and a query or a batch file, which is any word, or the word `stays`
 abbrev pub command_with_word : List ℕ → List ℕ → Option AskValue
 command_with_word command word =
     if bytes_eq command (codes "find") then Some (report_asked (find_asked word))
-    else (if bytes_eq command (codes "batch") then Some (batch_asked word) else None)
+    else (if bytes_eq command (codes "batch") then Some (batch_asked word)
+    else (if bytes_eq command (codes "trim") && bytes_eq word (codes "stays") then Some (trim_asked true) else None))
 
 -- a command, and the number of a unit or another word
 abbrev pub command_with_unit : List ℕ → List ℕ → Option AskValue
@@ -150,7 +163,8 @@ command_at_place command path line column =
 abbrev pub command_with_name : List ℕ → List ℕ → List ℕ → List ℕ → List ℕ → Option AskValue
 command_with_name command path line column name =
     if bytes_eq command (codes "rename") then rename_of path line column name false
-    else (if bytes_eq command (codes "template") then template_of path line column name else None)
+    else (if bytes_eq command (codes "template") then template_of path line column name
+    else (if bytes_eq command (codes "macro") then macro_of path line column name else None))
 
 -- the words of a rename, and the word `strings`
 abbrev pub command_with_strings : List ℕ → List ℕ → List ℕ → List ℕ → List ℕ → List ℕ → Option AskValue

@@ -1,7 +1,7 @@
 // What the words after the program's name ask for.
 ghost use Rattle.std.specs.Prelude.{◌≡◌, ◌≤◌, length, map, string_bytes, IsTrue};
 ghost use Rattle.std.specs.Option.{option_map};
-ghost use Rattle.command_words.specs.Request.{asked, alone_of, two_words_of, over_file, command_alone, command_with_unit, command_with_word, command_at_place, class_report_of, command_with_name, command_with_strings, rename_of, template_of, is_number, is_size, are_digits, begins_with_zero, number_of};
+ghost use Rattle.command_words.specs.Request.{asked, alone_of, two_words_of, over_file, command_alone, command_with_unit, command_with_word, command_at_place, class_report_of, command_with_name, command_with_strings, rename_of, template_of, macro_of, is_number, is_size, are_digits, begins_with_zero, number_of};
 ghost use Rattle.command_words.specs.Asking.{ask_value, request_value, workspace_file};
 
 /// A rename in words: the path is as written. `strings` says that strings which `#` makes may follow the renaming.
@@ -36,6 +36,7 @@ pub struct NamedClass<'a> {
 pub enum Edit<'a> {
     Renaming(Rename<'a>),
     Template(Reordering<'a>),
+    Macro(Reordering<'a>),
 }
 
 /// A report on an analysis. `Find` has its query.
@@ -48,13 +49,15 @@ pub enum Report<'a> {
     Find(&'a str),
 }
 
-/// What is asked over a workspace. `Tokens` has the number of a unit, `Batch` its file.
+/// What is asked over a workspace. `Tokens` has the number of a unit, `Trim` whether it tells what stays, `Batch` its file.
 #[derive(Drop)]
 pub enum Ask<'a> {
     Tokens(u32),
     Skipped,
+    Check,
     Report(Report<'a>),
     Edit(Edit<'a>),
+    Trim(bool),
     Batch(&'a str),
 }
 
@@ -151,12 +154,16 @@ fn asked_by_command<'a>(command: &str) -> Option<Ask<'a>>
 {
     if command == "skipped" {
         Some(Ask::Skipped)
+    } else if command == "check" {
+        Some(Ask::Check)
     } else if command == "unused" {
         Some(Ask::Report(Report::Unused))
     } else if command == "includes" {
         Some(Ask::Report(Report::Includes))
     } else if command == "calls" {
         Some(Ask::Report(Report::Calls))
+    } else if command == "trim" {
+        Some(Ask::Trim(false))
     } else {
         None
     }
@@ -179,6 +186,8 @@ fn asked_with_word<'a>(command: &str, word: &'a str) -> Option<Ask<'a>>
         Some(Ask::Report(Report::Find(word)))
     } else if command == "batch" {
         Some(Ask::Batch(word))
+    } else if command == "trim" && word == "stays" {
+        Some(Ask::Trim(true))
     } else {
         None
     }
@@ -222,6 +231,8 @@ fn asked_with_name<'a>(
         asked_rename(path, line, column, name, false)
     } else if command == "template" {
         asked_template(path, line, column, name)
+    } else if command == "macro" {
+        asked_macro(path, line, column, name)
     } else {
         None
     }
@@ -250,6 +261,21 @@ fn asked_template<'a>(path: &'a str, line: &str, column: &str, order: &'a str) -
 {
     if is_number(line.as_bytes()) && is_number(column.as_bytes()) {
         Some(Ask::Edit(Edit::Template(Reordering {
+            path,
+            line: number(line.as_bytes()),
+            column: number(column.as_bytes()),
+            order,
+        })))
+    } else {
+        None
+    }
+}
+
+fn asked_macro<'a>(path: &'a str, line: &str, column: &str, order: &'a str) -> Option<Ask<'a>>
+    ensures { option_map ask_value result ≡ macro_of path.now line.now column.now order.now }
+{
+    if is_number(line.as_bytes()) && is_number(column.as_bytes()) {
+        Some(Ask::Edit(Edit::Macro(Reordering {
             path,
             line: number(line.as_bytes()),
             column: number(column.as_bytes()),

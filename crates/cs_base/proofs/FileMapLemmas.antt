@@ -1,6 +1,6 @@
 -- What a path holds after a put, after each put of a list of edits, and after an addition.
 use Rattle.std.proofs.Common.{Ordering, ◌≡◌, ◌<◌, ℕ, zero, suc, true, false, List, [], ◌∷◌, ◌++◌, length, get_or, IsTrue, cond, refl, ap, ◌∙◌, inl, inr, arith}
-use Rattle.std.specs.Prelude.{Option, None, Some, All}
+use Rattle.std.specs.Prelude.{Option, Some, All}
 use Rattle.std.specs.Ordering.{nat_cmp, is_lt}
 use Rattle.std.specs.declared.cmp.Ordering.TheVariants.{Less, Equal, Greater}
 use Rattle.std.specs.Cmp.Lexicographic.{slice_cmp}
@@ -44,12 +44,6 @@ bytes_at-with_file_other path other bytes (file ∷ files) apart =
           rw there (ap (λ (rest : Option (List ℕ)). cond (bytes_eq file.0 other) (Some file.1) rest)
           (bytes_at-with_file_other path other bytes files apart))
     ]
-
--- edits that are put one after another
-pub with_edits-append : (xs ys : List Edit) (files : FileMap)
-    → with_edits (xs ++ ys) files ≡ with_edits ys (with_edits xs files)
-with_edits-append [] ys files = refl
-with_edits-append (x ∷ xs) ys files = with_edits-append xs ys (with_file x.path x.bytes files)
 
 -- a path that no edit names holds what it held
 pub bytes_at-with_edits_other : (es : List Edit) (path : List ℕ) (files : FileMap)
@@ -107,16 +101,6 @@ bytes_at-with_edits (e ∷ es) files zero d sorted within =
     ∙ bytes_at-with_file_same e.path e.bytes files
 bytes_at-with_edits (e ∷ es) files (suc k) d sorted within =
     bytes_at-with_edits es (with_file e.path e.bytes files) k d (are_in_order-tail e es sorted) (omega arith)
-
--- a path that is not held is that of the file that is added
-pub bytes_at-push_same : (path bytes : List ℕ) (files : FileMap) → bytes_at path files ≡ None
-    → bytes_at path (files ++ (path, bytes) ∷ []) ≡ Some bytes
-bytes_at-push_same path bytes [] absent = rw (bytes_eq-same path) refl
-bytes_at-push_same path bytes (file ∷ files) absent =
-    elim (cases_Bool (bytes_eq file.0 path)) [
-      | inl here ↦ let held = rw here at absent in cc
-      | inr other ↦ let absent' = rw other at absent in rw other (bytes_at-push_same path bytes files absent')
-    ]
 
 -- every other path holds what it held before the addition
 pub bytes_at-push_other : (path other bytes : List ℕ) (files : FileMap) → bytes_eq path other ≡ false

@@ -2,12 +2,10 @@ pub mod EditLemmas
 pub mod SpanLemmas
 pub mod OriginLemmas
 pub mod FileMapLemmas
-pub mod CountLemmas
 pub mod WorldLemmas
 pub mod HeldFilesLemmas
 pub mod PathLemmas
 pub mod UnitLemmas
 pub mod PathLaws
 pub mod NormalPaths
-pub mod JoinLaws
 pub mod CauseLemmas

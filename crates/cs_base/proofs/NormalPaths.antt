@@ -177,28 +177,6 @@ pub normal_path_of-is : (path : List ℕ)
 unfolding normal_path_of
 normal_path_of-is path = refl
 
--- the components that a path keeps
-pub are_kept-components : (path : List ℕ) → are_kept (is_absolute path) (kept_of (is_absolute path) (components_of path)) ≡ true
-are_kept-components path = are_kept-kept_of (is_absolute path) (components_of path) (has_no_slash-components path)
-
--- the normal path of an absolute path is absolute, and that of a relative path relative
-pub is_absolute-normal_path_of : (path : List ℕ) → is_absolute (normal_path_of path) ≡ is_absolute path
-is_absolute-normal_path_of path =
-    let kept = kept_of (is_absolute path) (components_of path) in
-    ap is_absolute (normal_path_of-is path)
-    ∙ is_absolute-path_of (is_absolute path) (reverse kept) (list_all-reverse is_plain kept (are_plain (is_absolute path) kept (are_kept-components path)))
-
--- the normal path keeps the same components
-pub kept_of-normal_path_of : (path : List ℕ)
-    → kept_of (is_absolute path) (components_of (normal_path_of path)) ≡ kept_of (is_absolute path) (components_of path)
-kept_of-normal_path_of path =
-    let absolute = is_absolute path in
-    let kept = kept_of absolute (components_of path) in
-    let plain = list_all-reverse is_plain kept (are_plain absolute kept (are_kept-components path)) in
-    ap (λ (normal : List ℕ). kept_of absolute (components_of normal)) (normal_path_of-is path)
-    ∙ kept_of-path_of absolute (reverse kept) (have_no_slash (reverse kept) plain)
-    ∙ kept_of-reverse absolute kept (are_kept-components path)
-
 -- a normal path stays as it is
 pub normal_path_of-normal : (path : List ℕ) → normal_path_of (normal_path_of path) ≡ normal_path_of path
 normal_path_of-normal path =

@@ -167,6 +167,3 @@ Reached-last from n k (suc i) (s ∷ spans) d are within found =
     rw (ended_before s k ended)
     (Reached-last (s.from + s.len) n k i spans d are.2 (omega arith)
     (λ j e low high. found.0 (suc j) e (omega arith) (omega arith), λ j e low high. found.1 (suc j) e (omega arith) (omega arith)))
-
-pub Reached-at : (k i : ℕ) (spans : List Span) (d : Span) → Reached spans k (suc i) → (get_or spans i d).from ≤ k
-Reached-at k i spans d found = leb-true _ _ (found.0 i d (omega arith) (omega arith))

@@ -1,11 +1,10 @@
 -- When the calls of files and of a sink in memory fail, and when none does.
-use Rattle.std.proofs.Common.{◌≡◌, ◌≤◌, ℕ, Bool, true, false, ◌||◌, List, [], length, ltb, refl, arith}
+use Rattle.std.proofs.Common.{◌≡◌, ◌≤◌, ℕ, Bool, true, false, ◌||◌, List, length, ltb, refl, arith}
 use Rattle.std.specs.Prelude.{None, Some, is_none}
 use Rattle.std.proofs.lemmas.Bool.{le-ltb}
 use Rattle.cs_base.specs.Outside.{bytes_at}
 use Rattle.cs_base.specs.Calls.{is_listed}
-use Rattle.cs_base.specs.World.{World, read_fails, put_fails}
-use Rattle.cs_base.specs.Written.{Written, write_fails}
+use Rattle.cs_base.specs.World.{World, put_fails}
 
 or-true : (a b : Bool) → true ≡ (a || b || true)
 or-true a b = grind arith
@@ -23,17 +22,3 @@ pub put_fails-Some : (path bytes old : List ℕ) (w : World) → bytes_at path w
 put_fails-Some path bytes old w held unlisted fits =
     or-false (is_listed w.fails w.calls) (ltb w.room (length bytes)) (is_none (bytes_at path w.files)) unlisted
     (le-ltb w.room (length bytes) fits) (rw held refl)
-
--- with an empty list no read fails
-pub read_fails-nil : (w : World) → w.fails ≡ [] → read_fails w ≡ false
-read_fails-nil w none = rw none refl
-
--- with an empty list, room enough and the path held, no put fails
-pub put_fails-nil : (path bytes old : List ℕ) (w : World) → w.fails ≡ [] → bytes_at path w.files ≡ Some old
-    → length bytes ≤ w.room → false ≡ put_fails path bytes w
-put_fails-nil path bytes old w none held fits = put_fails-Some path bytes old w held (rw none refl) fits
-
--- with an empty list and room enough no write fails
-pub write_fails-nil : (piece : List ℕ) (s : Written) → s.fails ≡ [] → length piece ≤ s.room
-    → write_fails piece s ≡ false
-write_fails-nil piece s none fits = rw (none, le-ltb s.room (length piece) fits) refl

@@ -1,12 +1,13 @@
 //! CScout: renames identifiers of C programs, preprocesses their units, and tells what must be spelled alike.
 //!
 //! `main` hands the words behind the program's name and the real files and streams to `run` of `cscout_run`, which is
-//! the whole program, and ends with the number of the status. Start from `cscout_run`.
+//! the whole program, or what follows the word `--diff` to its `show`, goes to the folder of `-C` before, and ends with the number of the status. Start from
+//! `cscout_run`.
 #![tactic(auto)]
 
 use command_words::tell;
-use cs_base::Sink;
-use cscout_run::{HostFiles, HostSink, Status, run};
+use cs_base::{Files, Sink};
+use cscout_run::{HostFiles, HostSink, Status, run, show};
 use std::process::ExitCode;
 use std::{env, io};
 
@@ -28,8 +29,54 @@ fn run_over_host(rt: &HostRuntime) -> Status {
         Err(_) => return no_memory(&mut err),
     };
     match HostFiles::new(rt) {
-        Ok(mut files) => run(rt.alloc(), words.as_slice(), &mut files, &mut out, &mut err),
+        Ok(mut files) => run_there(rt, words.as_slice(), &mut files, &mut out, &mut err),
         Err(_) => no_memory(&mut err),
+    }
+}
+
+// Runs the program on the words. `-C DIR` in front of them goes to that folder first: all paths are relative to it then.
+fn run_there<F: Files, O: Sink, E: Sink>(
+    rt: &HostRuntime,
+    words: &[String],
+    files: &mut F,
+    out: &mut O,
+    err: &mut E,
+) -> Status {
+    let Some((folder, more)) = folder_of(words) else {
+        return run_words(rt, words, files, out, err);
+    };
+    if env::set_current_dir(rt, folder).is_err() {
+        tell(err, &[b"cannot read ", folder.as_bytes()]);
+        return Status::ReadFault;
+    }
+    run_words(rt, more, files, out, err)
+}
+
+// The folder that the words begin with, and the words behind it.
+fn folder_of(words: &[String]) -> Option<(&str, &[String])> {
+    match words {
+        [first, folder, more @ ..] if first.as_str() == "-C" => Some((folder.as_str(), more)),
+        _ => None,
+    }
+}
+
+// Runs the program on the words. Behind `--diff` it shows what would change.
+fn run_words<F: Files, O: Sink, E: Sink>(
+    rt: &HostRuntime,
+    words: &[String],
+    files: &mut F,
+    out: &mut O,
+    err: &mut E,
+) -> Status {
+    match words.split_first() {
+        Some((first, more)) if first.as_str() == "--diff" => show(
+            rt.alloc(),
+            more,
+            files,
+            out,
+            err,
+        ),
+        _ => run(rt.alloc(), words, files, out, err),
     }
 }
 

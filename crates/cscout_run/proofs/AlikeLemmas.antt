@@ -1,4 +1,4 @@
--- What is unused, what is not needed, and what is found stand in one list.
+-- What is unused, what is not needed, what stands unseen and what is found stand in one list.
 use Rattle.std.proofs.Common.{◌≡◌, ℕ, List, [], ◌∷◌, ◌++◌, length, refl, ap, sym, subst, ◌∙◌}
 use Rattle.cs_base.specs.declared.positions.Part.{Part}
 use Rattle.cs_base.specs.declared.positions.Pos.{Pos}
@@ -10,6 +10,7 @@ use Rattle.unused_names.specs.Order.{position_cmp}
 use Rattle.unused_names.specs.Unneeded.{AreUnneeded}
 use Rattle.unused_names.specs.Unused.{AreUnused}
 use Rattle.unused_names.proofs.OrderLemmas.{position_cmp-total}
+use Rattle.unseen_names.specs.Unseen.{AreUnseen}
 use Rattle.query_words.specs.Queries.{Query}
 use Rattle.find_names.specs.Found.{AreFound, PrintsFound, PrintsLine, PrintsLines, found_line, nothing, more}
 
@@ -30,6 +31,16 @@ pub one_unneeded : (a : AnalysisValue) (ps qs : List Pos) → AreUnneeded a ps �
 one_unneeded a ps qs these those =
     same_lists (position_cmp a.table) (position_cmp-total a.table) ps qs these.sorted those.sorted (unneeded_in a ps qs these those)
     (unneeded_in a qs ps those these)
+
+-- ---- what stands unseen
+
+unseen_in : (a : AnalysisValue) (part : Part) (ms ns : List Part) → AreUnseen a part ms → AreUnseen a part ns → AreIn ms ns
+unseen_in a part ms ns these those m at = those.all m (these.each at.0 m at.1)
+
+-- the places where a name stands unseen are one list
+pub one_unseen : (a : AnalysisValue) (part : Part) (ms ns : List Part) → AreUnseen a part ms → AreUnseen a part ns → ms ≡ ns
+one_unseen a part ms ns these those =
+    same_lists (part_cmp a) (part_cmp-total a) ms ns these.sorted those.sorted (unseen_in a part ms ns these those) (unseen_in a part ns ms those these)
 
 -- ---- what is found
 

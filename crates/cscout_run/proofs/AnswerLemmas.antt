@@ -1,22 +1,26 @@
 -- Answers to the same words over the same files are one.
-use Rattle.std.proofs.Common.{◌≡◌, ℕ, List, Option, None, Some, Result, Ok, Err, refl, ap, ◌∙◌}
+use Rattle.std.proofs.Common.{◌≡◌, ℕ, List, Option, None, Some, Result, Ok, Err, refl, ap, ◌∙◌, subst}
 use Rattle.std.specs.Option.{option_map}
 use Rattle.std.proofs.lemmas.Option.{same_Some}
+use Rattle.cs_base.specs.Edit.{Edit}
 use Rattle.cs_base.specs.Outside.{FileMap, bytes_at}
 use Rattle.ws_file.specs.Workspace.{WorkspaceValue, IsWorkspace}
 use Rattle.ws_file.specs.Reading.{WsFault, workspace_of}
 use Rattle.analysis.specs.Below.source_files.Files.{source_of}
 use Rattle.analysis.specs.Analysis.{AnalysisValue, analysis_of}
 use Rattle.analysis.specs.Texts.{UnitFault}
+use Rattle.offences.specs.declared.refusals.Refusal.{Refusal}
 use Rattle.generated.specs.Generated.{workspace_path, generated_files}
 use Rattle.command_words.specs.Message.{usage_line}
-use Rattle.command_words.specs.Request.{AskValue, tokens_asked, skipped_asked, report_asked, edit_asked, batch_asked, RequestValue, help_asked, version_asked, generated_asked, asked_over, asked}
+use Rattle.command_words.specs.Request.{AskValue, tokens_asked, skipped_asked, check_asked, report_asked, edit_asked, trim_asked, batch_asked, RequestValue, help_asked, version_asked, generated_asked, asked_over, asked}
 use Rattle.cscout_run.specs.declared.status.Status.TheVariants.{Usage}
 use Rattle.cscout_run.specs.Answer.{IsAnswer, IsAnswerTo, IsRequestAnswer, IsAskAnswer, IsAnalysed, IsOverWorkspace, IsSizeAnswer, batch_at, workspace_at}
-use Rattle.cscout_run.specs.Asks.{IsEditAnswer, IsReportAnswer, edit_answer}
+use Rattle.cscout_run.specs.Asks.{IsEditAnswer, IsEditTold, IsReportAnswer}
 use Rattle.cscout_run.specs.Shapes.{Answer, stopped}
+use Rattle.cscout_run.specs.Trims.{IsTrimAnswer}
 use Rattle.cscout_run.proofs.LineLemmas.{batch-alike, same-answer}
-use Rattle.cscout_run.proofs.OnceLemmas.{edit_once, report_once, size_once}
+use Rattle.cscout_run.proofs.OnceLemmas.{edit_once, report_once, size_once, told_alike}
+use Rattle.cscout_run.proofs.TrimLemmas.{trim_once}
 use Rattle.cscout_run.proofs.WorkspaceLemmas.{read_is_workspace}
 
 -- the answer to words of no form
@@ -42,13 +46,17 @@ ask-alike : (files : FileMap) (ask : AskValue) (w : WorkspaceValue) (a b : Answe
     → IsAskAnswer files ask w b → a ≡ b
 ask-alike files (tokens_asked unit) w a b is p p' = same-answer _ a b p p'
 ask-alike files skipped_asked w a b is p p' = same-answer _ a b p p'
+ask-alike files check_asked w a b is p p' = same-answer _ a b p p'
 ask-alike files (report_asked report) w a b is p p' =
     analysed-alike (IsReportAnswer report) (analysis_of (source_of files) w) a b (λ value analysed. report_once report value a b) p p'
 ask-alike files (edit_asked edit) w a b is p p' =
     analysed-alike (IsEditAnswer edit) (analysis_of (source_of files) w) a b
     (λ value analysed p p'.
-    same-answer (edit_answer p.0) a b p.2 (ap edit_answer (edit_once (source_of files) w value is analysed edit p.0 p'.0 p.1 p'.1) ∙ p'.2))
+    let one = edit_once (source_of files) w value is analysed edit p'.0 p.0 p'.1 p.1 in
+    told_alike edit value p.0 a b p.2 (subst (λ (planned : Result (List Edit) Refusal). IsEditTold edit value planned b) one p'.2))
     p p'
+ask-alike files (trim_asked stays) w a b is p p' =
+    analysed-alike (IsTrimAnswer stays) (analysis_of (source_of files) w) a b (λ value analysed. trim_once stays value a b) p p'
 ask-alike files (batch_asked file) w a b is p p' = batch-alike w is files (batch_at file files) a b p p'
 
 -- what the files hold is a workspace

@@ -1,5 +1,5 @@
 -- The answer to an edit over an analysis: from what is planned.
-use Rattle.std.proofs.Common.{◌≡◌, ℕ, false, List, Some, Result, Ok, Err, refl, subst, sym}
+use Rattle.std.proofs.Common.{◌≡◌, ℕ, false, List, Some, Result, Ok, Err, ◌++◌, refl, subst, sym}
 use Rattle.std.specs.Prelude.{IfSome, IsErrAnd}
 use Rattle.analysis.specs.Analysis.{AnalysisValue}
 use Rattle.offences.specs.Refusals.{refusal_of}
@@ -9,7 +9,7 @@ use Rattle.command_words.specs.Message.{edited_lines}
 use Rattle.command_words.specs.Request.{EditValue}
 use Rattle.cscout_run.specs.declared.preparing.Ready.{Ready}
 use Rattle.cscout_run.specs.declared.stops.Stop.{Stop}
-use Rattle.cscout_run.specs.Asks.{IsEdit, IsEditAnswer}
+use Rattle.cscout_run.specs.Asks.{IsEdit, IsEditAnswer, LeavesUnseen}
 use Rattle.cscout_run.specs.Steps.{Tells, ready_answer}
 use Rattle.cscout_run.specs.Stopping.{plan_stop}
 
@@ -25,7 +25,7 @@ pub plan_told : (edit : EditValue) (value : AnalysisValue) (fault : PlanFault) (
 plan_told edit value fault (Ok ready) same is = absurd same
 plan_told edit value fault (Err e) same is = subst (λ (s : Stop). Tells ready_answer (IsEditAnswer edit value) (Err s)) (sym same) (plan_tells edit value fault is)
 
--- the edits of a plan, and the lines that tell them
-pub plan_answers : (edit : EditValue) (value : AnalysisValue) (ready : Ready) → IsEdit edit value (Ok ready.edits)
-    → ready.text.items ≡ edited_lines ready.edits → ready.refused ≡ false → IsEditAnswer edit value (ready_answer ready)
-plan_answers edit value ready is lines refused = (Ok ready.edits, is, rw (lines, refused) refl)
+-- the edits of a plan, the lines that tell them, and those of what they leave unseen
+pub plan_answers : (edit : EditValue) (value : AnalysisValue) (ready : Ready) (left : List ℕ) → IsEdit edit value (Ok ready.edits)
+    → LeavesUnseen edit value left → ready.text.items ≡ edited_lines ready.edits ++ left → ready.refused ≡ false → IsEditAnswer edit value (ready_answer ready)
+plan_answers edit value ready left is leaves lines refused = (Ok ready.edits, is, (left, leaves, rw (lines, refused) refl))

@@ -2,6 +2,7 @@ pub mod AlikeLemmas
 pub mod AnswerLemmas
 pub mod BatchLemmas
 pub mod CallsLemmas
+pub mod CheckLemmas
 pub mod EditLemmas
 pub mod EndLemmas
 pub mod FindLemmas
@@ -10,5 +11,7 @@ pub mod OnceLemmas
 pub mod OverLemmas
 pub mod PromiseLemmas
 pub mod RunLemmas
+pub mod ShowLemmas
 pub mod SizeLemmas
+pub mod TrimLemmas
 pub mod WorkspaceLemmas

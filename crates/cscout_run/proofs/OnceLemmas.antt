@@ -13,6 +13,8 @@ use Rattle.offences.proofs.NamedLemmas.{one_named}
 use Rattle.offences.specs.declared.refusals.Refusal.{Refusal}
 use Rattle.rename_plan.proofs.OnceLemmas.{renamings_once}
 use Rattle.template_plan.proofs.OnceLemmas.{templates_once}
+use Rattle.macro_plan.proofs.OnceLemmas.{macros_once}
+use Rattle.unseen_names.specs.Unseen.{unseen_lines}
 use Rattle.query_words.specs.Queries.{Query}
 use Rattle.query_words.specs.Reading.{parsed}
 use Rattle.query_words.specs.declared.faults.QueryFault.{QueryFault}
@@ -20,11 +22,11 @@ use Rattle.query_report.specs.Queries.{IsIncludesReport, IsUnusedReport, lines_o
 use Rattle.calls_of.specs.Graph.{GraphValue}
 use Rattle.calls_of.specs.Graphs.{calls_text}
 use Rattle.generated.specs.Generated.{header_path}
-use Rattle.command_words.specs.Request.{ClassValue, EditValue, rename_asked, template_asked, ReportValue, class_asked, unused_asked, includes_asked, calls_asked, find_asked}
+use Rattle.command_words.specs.Request.{ClassValue, EditValue, rename_asked, template_asked, macro_asked, ReportValue, class_asked, unused_asked, includes_asked, calls_asked, find_asked}
 use Rattle.cscout_run.specs.Answer.{IsSizeAnswer, size_answer}
-use Rattle.cscout_run.specs.Asks.{IsReportAnswer, IsFindAnswer, IsEdit, told_answer}
-use Rattle.cscout_run.specs.Shapes.{Answer, shown}
-use Rattle.cscout_run.proofs.AlikeLemmas.{one_found, one_unneeded, one_unused}
+use Rattle.cscout_run.specs.Asks.{IsReportAnswer, IsFindAnswer, IsEdit, IsEditTold, LeavesAt, LeavesUnseen, TellsUnseen, told_answer}
+use Rattle.cscout_run.specs.Shapes.{Answer, edited, shown}
+use Rattle.cscout_run.proofs.AlikeLemmas.{one_found, one_unneeded, one_unseen, one_unused}
 use Rattle.cscout_run.proofs.CallsLemmas.{one_graph}
 use Rattle.cscout_run.proofs.LineLemmas.{same-answer}
 
@@ -80,11 +82,37 @@ report_once (find_asked query) value a b p p' = found_once value (parsed query) 
 
 -- ---- edits
 
+unseen_told : (value : AnalysisValue) (part : Option Part) (text text' : List ℕ) → TellsUnseen value part text → TellsUnseen value part text' → text ≡ text'
+unseen_told value None text text' r r' = r ∙ sym r'
+unseen_told value (Some part) text text' r r' =
+    r.lines ∙ ap (unseen_lines value part) (one_unseen value part r.places r'.places r.are_unseen r'.are_unseen) ∙ sym r'.lines
+
+left_at : (path : List ℕ) (line column : ℕ) (value : AnalysisValue) (text text' : List ℕ) → LeavesAt path line column value text
+    → LeavesAt path line column value text' → text ≡ text'
+left_at path line column value text text' r r' =
+    let part : r'.part ≡ r.part = one_named value path line column r.part r'.part r.named r'.named in
+    unseen_told value r.part text text' r.told (subst (λ (p : Option Part). TellsUnseen value p text') part r'.told)
+
+-- two texts of what an edit leaves are one
+left_once : (edit : EditValue) (value : AnalysisValue) (text text' : List ℕ) → LeavesUnseen edit value text → LeavesUnseen edit value text'
+    → text ≡ text'
+left_once (rename_asked q) value text text' r r' = left_at q.path q.line q.column value text text' r r'
+left_once (template_asked q) value text text' r r' = left_at q.path q.line q.column value text text' r r'
+left_once (macro_asked q) value text text' r r' = left_at q.path q.line q.column value text text' r r'
+
+-- two answers of one plan
+pub told_alike : (edit : EditValue) (value : AnalysisValue) (planned : Result (List Edit) Refusal) (a b : Answer) → IsEditTold edit value planned a
+    → IsEditTold edit value planned b → a ≡ b
+told_alike edit value (Ok edits) a b p p' =
+    same-answer (edited edits p.0) a b p.2 (ap (edited edits) (left_once edit value p.0 p'.0 p.1 p'.1) ∙ p'.2)
+told_alike edit value (Err refusal) a b p p' = same-answer _ a b p p'
+
 -- An analysis of a workspace: a line for each edit.
 module _ (source : Source) (ws : WorkspaceValue) (value : AnalysisValue) (is_ws : IsWorkspace ws) (analysed : analysis_of source ws ≡ Ok value) where
   pub edit_once : (edit : EditValue) (r s : Result (List Edit) Refusal) → IsEdit edit value r → IsEdit edit value s → r ≡ s
   edit_once (rename_asked q) r s p p' = renamings_once source ws value is_ws analysed q.path q.line q.column q.name q.strings r s p p'
   edit_once (template_asked q) r s p p' = templates_once source ws value is_ws analysed q.path q.line q.column q.order r s p p'
+  edit_once (macro_asked q) r s p p' = macros_once source ws value is_ws analysed q.path q.line q.column q.order r s p p'
 
   -- the size of a generated workspace
   pub size_once : (n : ℕ) (a b : Answer) → IsSizeAnswer n value a → IsSizeAnswer n value b → a ≡ b

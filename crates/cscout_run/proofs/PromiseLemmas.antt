@@ -16,7 +16,7 @@ use Rattle.batch_run.specs.Line.{LineValue}
 use Rattle.batch_run.proofs.KeepingLemmas.{workspace_is}
 use Rattle.edited_files.proofs.MadeLemmas.{edits_are_made}
 use Rattle.command_words.proofs.MessageLemmas.{message_there}
-use Rattle.command_words.specs.Request.{AskValue, tokens_asked, skipped_asked, report_asked, edit_asked, batch_asked, EditValue, RequestValue, help_asked, version_asked, generated_asked, asked_over, asked}
+use Rattle.command_words.specs.Request.{AskValue, tokens_asked, skipped_asked, check_asked, report_asked, edit_asked, trim_asked, batch_asked, EditValue, RequestValue, help_asked, version_asked, generated_asked, asked_over, asked}
 use Rattle.cscout_run.specs.declared.preparing.Ready.{Ready}
 use Rattle.cscout_run.specs.declared.status.Status.TheVariants.{Refused, Workspace, ReadFault, Memory}
 use Rattle.cscout_run.specs.declared.stops.Stop.{Stop}
@@ -30,6 +30,7 @@ use Rattle.cscout_run.specs.Shapes.{Answer, stopped}
 use Rattle.cscout_run.specs.Steps.{IsPlanned, IsPlannedFor, LinesRun, Planned, Prepares}
 use Rattle.cscout_run.specs.Stopping.{Stops, status_of, why_line}
 use Rattle.cscout_run.proofs.RunLemmas.{if_told, if_told-map}
+use Rattle.cscout_run.proofs.TrimLemmas.{trim_kept}
 
 -- ---- a run that goes on
 
@@ -59,8 +60,10 @@ ask_kept : (ask : AskValue) (ws : WorkspaceValue) (before : FileMap) (edits : Li
     → KeepsAsk ask ws before (with_edits edits before)
 ask_kept (tokens_asked unit) ws before edits p = tt
 ask_kept skipped_asked ws before edits p = tt
+ask_kept check_asked ws before edits p = tt
 ask_kept (report_asked report) ws before edits p = tt
 ask_kept (edit_asked edit) ws before edits p = kept edit ws before edits p
+ask_kept (trim_asked stays) ws before edits p = trim_kept ws before edits p
 ask_kept (batch_asked file) ws before edits p = has_run file ws before edits p
 
 promise_at : (request : RequestValue) (before : FileMap) (edits : List Edit) → IsPlannedFor request before edits
@@ -123,6 +126,7 @@ refusal_there : (r : Refusal) → refusal_line r ≡ [] → ⊥
 refusal_there refusal.BadName e = message_there _ e
 refusal_there refusal.NoName e = message_there _ e
 refusal_there refusal.NotAFunction e = message_there _ e
+refusal_there refusal.NotAMacro e = message_there _ e
 refusal_there refusal.BadOrder e = message_there _ e
 refusal_there (refusal.Offence place cause) e = message_there _ e
 
@@ -146,8 +150,10 @@ refused-ask : (fs : FileMap) (path ws : List ℕ) (ask : AskValue) (end : Stop) 
     → Stops ws (IsRequestAnswer fs (asked_over path ask)) end → ⊥
 refused-ask fs path ws (tokens_asked unit) end lines is p = lines
 refused-ask fs path ws skipped_asked end lines is p = lines
+refused-ask fs path ws check_asked end lines is p = lines
 refused-ask fs path ws (report_asked report) end lines is p = lines
 refused-ask fs path ws (edit_asked edit) end lines is p = lines
+refused-ask fs path ws (trim_asked stays) end lines is p = lines
 refused-ask fs path ws (batch_asked file) end lines is p = refused-batch fs path file ws lines.0 end lines.1 is p
 
 stopped_at : (request : RequestValue) (ws : List ℕ) (before now : FileMap) (end : Stop) → Stops ws (IsRequestAnswer before request) end

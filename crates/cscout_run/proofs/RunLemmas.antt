@@ -54,7 +54,7 @@ stop-status ws IsOne (stop.Refused why) a alike p q = alike a _ q p
 stop-status ws IsOne stop.Memory a alike p q = tt
 
 -- files and output stay as they were where there is nothing to put and to write
-put_none : (held : Option FileMap) → held ≡ option_map (with_edits []) held
+pub put_none : (held : Option FileMap) → held ≡ option_map (with_edits []) held
 put_none None = refl
 put_none (Some fs) = refl
 

@@ -9,11 +9,11 @@ use Rattle.std.proofs.lemmas.List.Folds.{list_all-append}
 use Rattle.cs_base.specs.declared.ws_units.Setting.{Setting}
 use Rattle.cs_base.specs.declared.ws_units.Setting.TheVariants as setting
 use Rattle.cs_base.specs.declared.ws_units.Standard.{Standard as Language}
-use Rattle.cs_base.specs.declared.ws_units.Standard.TheVariants.{C99, C11}
+use Rattle.cs_base.specs.declared.ws_units.Standard.TheVariants.{C99, C11, Gnu99, Gnu11}
 use Rattle.cs_base.specs.Paths.{normal_path_of}
 use Rattle.cs_base.specs.Units.{line_feed, backslash, is_blank, is_nondigit, is_identifier, begins_with, ends_with, has_bad_ends, is_writable, is_project, is_setting, defines_fit}
 use Rattle.cs_base.specs.Limits.{most_units}
-use Rattle.ws_file.specs.Workspace.{WorkspaceValue, IsWorkspace, workspace, is_prefix, is_said}
+use Rattle.ws_file.specs.Workspace.{WorkspaceValue, IsWorkspace, workspace, is_prefix}
 use Rattle.ws_file.specs.Lines.{lines_of, trimmed, first_word, rest_of, line_word}
 use Rattle.ws_file.specs.Reading.{Reading, WsFault, too_many_units, at_first, of_standard, with_project, with_standard, with_directory, with_prefix, with_define, with_undefine, with_unit, is_bad_path, is_bad_include, with_word, is_comment, with_text, with_line, checked, read_lines, workspace_of}
 use Rattle.ws_file.specs.Taking.{IsReading, IsTrimmed, has_no_feed}
@@ -55,13 +55,11 @@ module _ (rest : List ℕ) (writable : is_writable rest ≡ true) (full : bytes_
         are_settings = pushed is_setting r.settings s k.are_settings h;
         are_includes = k.are_includes;
         are_units = k.are_units;
-        are_said = k.are_said;
         are_prefixes = k.are_prefixes;
-        is_said_too = k.is_said_too;
       })
 
-  told : (s : Language) (next : Reading) → is_said s ≡ true → of_standard s r ≡ next → IsReading next
-  told s next said e =
+  told : (s : Language) (next : Reading) → of_standard s r ≡ next → IsReading next
+  told s next e =
       subst IsReading e
       (record {
         is_named = k.is_named;
@@ -70,14 +68,16 @@ module _ (rest : List ℕ) (writable : is_writable rest ≡ true) (full : bytes_
         are_settings = k.are_settings;
         are_includes = k.are_includes;
         are_units = k.are_units;
-        are_said = k.are_said;
         are_prefixes = k.are_prefixes;
-        is_said_too = said;
       })
 
-  standard_read : (c d : Bool) (next : Reading) → (if c then Some (of_standard C99 r) else (if d then Some (of_standard C11 r) else None)) ≡ Some next → IsReading next
-  standard_read true d next e = told C99 next refl (same_taken (of_standard C99 r) next e)
-  standard_read false d next e = told C11 next refl ((some_if d (of_standard C11 r) next e).1)
+  standard_read : (c d g h : Bool) (next : Reading)
+      → (if c then Some (of_standard C99 r) else (if d then Some (of_standard C11 r) else (if g then Some (of_standard Gnu99 r) else (if h then Some (of_standard Gnu11 r) else None))))
+      ≡ Some next → IsReading next
+  standard_read true d g h next e = told C99 next (same_taken (of_standard C99 r) next e)
+  standard_read false true g h next e = told C11 next (same_taken (of_standard C11 r) next e)
+  standard_read false false true h next e = told Gnu99 next (same_taken (of_standard Gnu99 r) next e)
+  standard_read false false false h next e = told Gnu11 next ((some_if h (of_standard Gnu11 r) next e).1)
 
   word_read : (w : LineWord) (next : Reading) → with_word w rest r ≡ Some next → IsReading next
   unfolding with_word
@@ -91,11 +91,10 @@ module _ (rest : List ℕ) (writable : is_writable rest ≡ true) (full : bytes_
         are_settings = refl;
         are_includes = refl;
         are_units = k.are_units;
-        are_said = k.are_said;
         are_prefixes = k.are_prefixes;
-        is_said_too = refl;
       })
-  word_read word.Standard next e = standard_read (bytes_eq rest (codes "c99")) (bytes_eq rest (codes "c11")) next e
+  word_read word.Standard next e =
+      standard_read (bytes_eq rest (codes "c99")) (bytes_eq rest (codes "c11")) (bytes_eq rest (codes "gnu99")) (bytes_eq rest (codes "gnu11")) next e
   word_read word.Qpath next e =
       let both = some_else (has_bad_ends (normal_path_of rest)) _ next e in
       subst IsReading (same_taken _ next both.1) (IsReading-quoted r (normal_path_of rest) k (is_directory-normal rest writable both.0))
@@ -111,9 +110,7 @@ module _ (rest : List ℕ) (writable : is_writable rest ≡ true) (full : bytes_
         are_settings = k.are_settings;
         are_includes = k.are_includes;
         are_units = k.are_units;
-        are_said = k.are_said;
         are_prefixes = pushed is_prefix r.readonly rest k.are_prefixes (and_from _ _ writable not_empty);
-        is_said_too = k.is_said_too;
       })
   word_read word.Define next e =
       let both = some_if (begins_with is_nondigit rest) _ next e in
@@ -130,7 +127,7 @@ module _ (rest : List ℕ) (writable : is_writable rest ≡ true) (full : bytes_
       let both = some_else (is_bad_path path || not fit) _ next e in
       let good = or_parts (is_bad_path path) (not fit) both.0 in
       subst IsReading (same_taken _ next both.1)
-      (IsReading-unit r (unit_in r path) k (IsUnit-reading r path k (is_unit_path-normal rest writable good.0) (fits fit good.1)) refl)
+      (IsReading-unit r (unit_in r path) k (IsUnit-reading r path k (is_unit_path-normal rest writable good.0) (fits fit good.1)))
     where
       fits : (b : Bool) → not b ≡ false → b ≡ true
       fits true h = refl
@@ -195,7 +192,7 @@ lines_read : (number start : ℕ) (lines : List (List ℕ)) (r : Reading) (w : W
     → length r.units ≤ most_units → read_lines number start lines r ≡ Ok w → IsWorkspace w
 lines_read number start [] r w plain k few e =
     subst IsWorkspace (ok_same (workspace r.units r.readonly) w (sym (read_lines-end number start r) ∙ e))
-    (record { are_few = few; are_units = k.are_units; are_said = k.are_said; are_prefixes = k.are_prefixes })
+    (record { are_few = few; are_units = k.are_units; are_prefixes = k.are_prefixes })
 lines_read number start (line ∷ lines) r w plain k few e =
     by (checked number (with_line start line r)) refl
     (λ next h.

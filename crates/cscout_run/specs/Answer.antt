@@ -11,6 +11,7 @@ use Rattle.analysis.specs.Below.unit_steps.Texts.{UnitTextValue}
 use Rattle.analysis.specs.Analysis.{AnalysisValue, analysis_of}
 use Rattle.analysis.specs.Texts as units
 use Rattle.analysis.specs.Counts.{tokens_in}
+use Rattle.unit_checks.specs.Checked.{check_text, some_refused}
 use Rattle.query_report.specs.TokensText.{tokens_text}
 use Rattle.query_report.specs.Skipped.{skipped_text}
 use Rattle.offences.specs.declared.refusals.Refusal.{Refusal}
@@ -19,12 +20,13 @@ use Rattle.batch_run.specs.Line.{LineValue}
 use Rattle.batch_run.specs.Reading.{batch_of}
 use Rattle.batch_run.specs.Batch.{Plan, IsBatch, after_each, plan_text, is_refused, refusal_line}
 use Rattle.generated.specs.Generated.{header_path, workspace_path, generated_files}
-use Rattle.command_words.specs.Request.{AskValue, tokens_asked, skipped_asked, report_asked, edit_asked, batch_asked, RequestValue, help_asked, version_asked, generated_asked, asked_over, asked}
+use Rattle.command_words.specs.Request.{AskValue, tokens_asked, skipped_asked, check_asked, report_asked, edit_asked, trim_asked, batch_asked, RequestValue, help_asked, version_asked, generated_asked, asked_over, asked}
 use Rattle.command_words.specs.Message.{usage_line, absent_line, ws_line, unit_line, refused_line, batch_line, size_line}
 use Rattle.command_words.specs.Help.{help_text, version_text}
 use Rattle.cscout_run.specs.declared.status.Status.TheVariants.{Refused, Usage, Workspace}
 use Rattle.cscout_run.specs.Asks.{IsReportAnswer, IsEditAnswer}
 use Rattle.cscout_run.specs.Shapes.{Answer, answer_of, ready_status, shown, stopped}
+use Rattle.cscout_run.specs.Trims.{IsTrimAnswer}
 
 -- ---- the workspace file
 
@@ -78,6 +80,13 @@ texts_answer (Err fault) = stopped Workspace (text_fault_line fault)
 abbrev pub units_answer : FileMap → WorkspaceValue → Answer
 units_answer files w = texts_answer (units.texts_of (source_of files) w.units)
 
+-- ---- `check`
+
+-- what a check of the units tells: refused where some unit is not accepted, without a message
+abbrev pub check_answer : FileMap → WorkspaceValue → Answer
+check_answer files w =
+    answer_of (ready_status (some_refused (source_of files) w)) (check_text (source_of files) w) [] []
+
 -- ---- `batch`
 
 -- the lines of the batch file, or the number of the first bad one, if it is there
@@ -123,12 +132,14 @@ IsGenerated n a =
 
 -- ---- the whole
 
--- The answers to what is asked over a workspace. Reports and edits rest on its analysis.
+-- The answers to what is asked over a workspace. Reports, edits and trims rest on its analysis.
 abbrev pub IsAskAnswer : FileMap → AskValue → WorkspaceValue → Answer → Type 0
 IsAskAnswer files (tokens_asked unit) w a = unit_answer unit files w ≡ a
 IsAskAnswer files skipped_asked w a = units_answer files w ≡ a
+IsAskAnswer files check_asked w a = check_answer files w ≡ a
 IsAskAnswer files (report_asked report) w a = IsAnalysed (IsReportAnswer report) (analysis_of (source_of files) w) a
 IsAskAnswer files (edit_asked edit) w a = IsAnalysed (IsEditAnswer edit) (analysis_of (source_of files) w) a
+IsAskAnswer files (trim_asked stays) w a = IsAnalysed (IsTrimAnswer stays) (analysis_of (source_of files) w) a
 IsAskAnswer files (batch_asked file) w a = IsBatchAnswer files w (batch_at file files) a
 
 -- The answers to a request.

@@ -1,4 +1,4 @@
--- The promise of an edit that is done, and of each accepted line of a batch.
+-- The promise of an edit and of a trim that is done, and of each accepted line of a batch.
 use Rattle.std.specs.Prelude.{ℕ, ◌≡◌, List, [], Option, Some, Ok}
 use Rattle.cs_base.specs.Edit.{with_edits}
 use Rattle.cs_base.specs.Outside.{FileMap}
@@ -7,7 +7,8 @@ use Rattle.analysis.specs.Below.source_files.Files.{source_of}
 use Rattle.batch_run.specs.Line.{LineValue}
 use Rattle.batch_run.specs.Batch.{Plan, IsBatch, after_each}
 use Rattle.batch_run.specs.Keeping.{KeepsLines}
-use Rattle.command_words.specs.Request.{AskValue, edit_asked, batch_asked, RequestValue, asked_over}
+use Rattle.trim_plan.specs.Kept.{IsTrimmed}
+use Rattle.command_words.specs.Request.{AskValue, edit_asked, trim_asked, batch_asked, RequestValue, asked_over}
 use Rattle.cscout_run.specs.Answer.{batch_at, workspace_at}
 use Rattle.cscout_run.specs.Asks.{Keeps}
 
@@ -24,9 +25,11 @@ pub record HasRun (file : List ℕ) (ws : WorkspaceValue) (before now : FileMap)
   -- the files are as the last line leaves them
   pub left : now ≡ with_edits (after_each plans []) before
 
--- what is kept over a workspace: an edit keeps what it promises, and the lines of a batch were run
+-- what is kept over a workspace: an edit keeps what it promises, a trim all but what the lines brought that it takes away, and the
+-- lines of a batch were run
 abbrev pub KeepsAsk : AskValue → WorkspaceValue → FileMap → FileMap → Type 0
 KeepsAsk (edit_asked edit) ws before now = Keeps edit ws (source_of before) (source_of now)
+KeepsAsk (trim_asked stays) ws before now = IsTrimmed ws (source_of before) (source_of now)
 KeepsAsk (batch_asked file) ws before now = HasRun file ws before now
 KeepsAsk _ ws before now = Unit {0}
 

@@ -1,5 +1,5 @@
 -- What a run does, and the shapes that answers have.
-use Rattle.std.specs.Prelude.{ℕ, Bool, true, false, List, []}
+use Rattle.std.specs.Prelude.{ℕ, Bool, true, false, List, [], ◌++◌}
 use Rattle.cs_base.specs.Edit.{Edit}
 use Rattle.command_words.specs.Message.{edited_lines}
 use Rattle.cscout_run.specs.declared.status.Status.{Status}
@@ -24,9 +24,9 @@ shown text = answer_of Done text [] []
 abbrev pub stopped : Status → List ℕ → Answer
 stopped status line = answer_of status [] line []
 
--- edits, and a line for each file of them
-abbrev pub edited : List Edit → Answer
-edited edits = answer_of Done (edited_lines edits) [] edits
+-- edits, a line for each file of them, and these lines
+abbrev pub edited : List Edit → List ℕ → Answer
+edited edits lines = answer_of Done (edited_lines edits ++ lines) [] edits
 
 -- the status of a run that stops at nothing: a batch goes on behind a refused line
 abbrev pub ready_status : Bool → Status

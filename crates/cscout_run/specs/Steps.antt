@@ -11,12 +11,14 @@ use Rattle.analysis.specs.declared.analyse_fault.AnalyseFault.{AnalyseFault}
 use Rattle.analysis.specs.declared.analyse_fault.AnalyseFault.TheVariants as fault
 use Rattle.find_names.specs.declared.refusal.FindRefusal.{FindRefusal}
 use Rattle.find_names.specs.declared.refusal.FindRefusal.TheVariants as found
+use Rattle.unit_checks.specs.declared.check_fault.CheckFault.{CheckFault}
+use Rattle.unit_checks.specs.declared.check_fault.CheckFault.TheVariants as checked
 use Rattle.query_report.specs.Queries.{IsReport}
 use Rattle.query_report.specs.declared.queries.Query.{Query}
 use Rattle.batch_run.specs.Line.{LineValue}
 use Rattle.batch_run.specs.Batch.{Plan, IsBatch, after_each}
 use Rattle.batch_run.specs.Keeping.{KeepsLines}
-use Rattle.command_words.specs.Request.{AskValue, edit_asked, batch_asked, EditValue, RequestValue, asked_over}
+use Rattle.command_words.specs.Request.{AskValue, edit_asked, trim_asked, batch_asked, EditValue, RequestValue, asked_over}
 use Rattle.command_words.specs.Message.{absent_line, batch_line}
 use Rattle.cscout_run.specs.declared.preparing.Ready.{Ready}
 use Rattle.cscout_run.specs.declared.status.Status.TheVariants as status
@@ -28,6 +30,7 @@ use Rattle.cscout_run.specs.Answer.{batch_at, text_fault_line, workspace_at, ws_
 use Rattle.cscout_run.specs.Asks.{KeepsOver, told_answer}
 use Rattle.cscout_run.specs.Shapes.{Answer, answer_of, ready_status, stopped}
 use Rattle.cscout_run.specs.Stopping.{Stops, stop_reads, why_line}
+use Rattle.cscout_run.specs.Trims.{TrimPlanned}
 
 -- ---- what stands ready
 
@@ -67,6 +70,13 @@ IsQuiet (Workspace fault) = Unit {0}
 IsQuiet (Unread path) = ⊥
 IsQuiet (Refused why) = Unit {0}
 IsQuiet Memory = Unit {0}
+
+-- an early end behind what stands ready: a read failed, or memory ran out
+abbrev pub IsLateStop : Stop → Type 0
+IsLateStop (Workspace fault) = ⊥
+IsLateStop (Unread path) = Unit {0}
+IsLateStop (Refused why) = ⊥
+IsLateStop Memory = Unit {0}
 
 -- ---- what is read
 
@@ -110,6 +120,11 @@ stop_of (fault.WorkspaceFault unit place cause) = Workspace (NotAccepted unit pl
 stop_of (fault.ReadFault path) = Unread path
 stop_of fault.Memory = Memory
 
+-- why nothing is told of units
+abbrev pub check_stop : CheckFault → Stop
+check_stop (checked.ReadFault path) = Unread path
+check_stop checked.Memory = Memory
+
 -- why nothing is found
 abbrev pub find_stop : FindRefusal → Stop
 find_stop (found.BadQuery at) = Refused (BadQuery at)
@@ -138,6 +153,7 @@ pub record LinesRun (file : List ℕ) (ws : WorkspaceValue) (files : FileMap) (e
 -- what stands ready over a workspace, by what is asked: edits are planned, and the lines of a batch were run
 abbrev pub IsPlanned : AskValue → WorkspaceValue → FileMap → List Edit → Type 0
 IsPlanned (edit_asked edit) ws files edits = Planned edit ws files edits
+IsPlanned (trim_asked stays) ws files edits = TrimPlanned ws files edits
 IsPlanned (batch_asked file) ws files edits = LinesRun file ws files edits
 IsPlanned _ ws files edits = Unit {0}
 

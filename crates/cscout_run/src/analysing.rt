@@ -9,6 +9,7 @@ ghost use Rattle.cscout_run.specs.Asks.{IsEditAnswer, IsReportAnswer, KeepsOver}
 ghost use Rattle.cscout_run.specs.Steps.{Analyses, Answers, Planned, Tells, ready_answer, reads_of};
 
 use crate::edits::edits_of;
+use crate::leaving::push_left;
 use crate::preparing::{Ready, to_show};
 use crate::reports::report_of;
 use crate::stops::Stop;
@@ -56,8 +57,12 @@ pub(crate) fn edit_over<F: Files>(
     answer
 }
 
-// The analysis of the workspace.
-fn analysis_over<F: Files>(alloc: Global, ws: &Workspace, files: &mut F) -> Result<Analysis, Stop>
+/// The analysis of the workspace.
+pub(crate) fn analysis_over<F: Files>(
+    alloc: Global,
+    ws: &Workspace,
+    files: &mut F,
+) -> Result<Analysis, Stop>
     ensures answer { IfSome (F.told files.old).held (λ fs. Analyses (λ a. a.value) ws.now fs result) }
     ensures faults { ReadsOnly (F.told files.old) (F.told files.new) (reads_of result) }
 {
@@ -75,14 +80,15 @@ fn told(alloc: Global, a: &Analysis, report: &Report<'_>) -> Result<Ready, Stop>
     Ok(to_show(alloc, text))
 }
 
-// The edits, and the text that tells them.
+// The edits, and the text that tells them and what they leave unseen.
 fn edited(alloc: Global, a: &Analysis, edit: &Edit<'_>) -> Result<Ready, Stop>
     ensures answer { Tells ready_answer (IsEditAnswer (edit_value edit.now) a.now.value) result }
     ensures keeps { IfOk result (λ ready. KeepsOver (edit_value edit.now) a.now.value ready.edits) }
     ensures sound { IfOk result (λ ready. IsKept ready.edits) }
 {
     let edits = edits_of(alloc, a, edit)?;
-    let text = edited_text(alloc, &edits)?;
+    let mut text = edited_text(alloc, &edits)?;
+    push_left(alloc, &mut text, a, edit)?;
     Ok(Ready {
         edits,
         text,

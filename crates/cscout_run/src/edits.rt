@@ -3,13 +3,14 @@ ghost use Rattle.std.specs.Prelude.{◌≡◌, IfOk, IsUtf8};
 ghost use Rattle.offences.specs.Answers.{GivesOne};
 ghost use Rattle.offences.specs.Refusals.{refusal_of};
 ghost use Rattle.command_words.specs.Asking.{edit_value, rename_value, template_value};
-ghost use Rattle.command_words.specs.Request.{rename_asked, template_asked};
+ghost use Rattle.command_words.specs.Request.{rename_asked, template_asked, macro_asked};
 ghost use Rattle.cscout_run.specs.Asks.{IsEdit, KeepsOver};
 
 use analysis::Analysis;
 use command_words::requests::{Rename, Reordering};
 use command_words::{Edit, order_of};
 use cs_base::{Edits, Text, normal_path};
+use macro_plan::plan_macro;
 use offences::PlanFault;
 use rename_plan::plan_rename;
 use std::alloc::Global;
@@ -25,6 +26,7 @@ pub(crate) fn edits_of(alloc: Global, a: &Analysis, edit: &Edit<'_>) -> Result<E
     match edit {
         Edit::Renaming(q) => renaming(alloc, a, q),
         Edit::Template(q) => reordering(alloc, a, q),
+        Edit::Macro(q) => turning(alloc, a, q),
     }
 }
 
@@ -55,8 +57,18 @@ fn reordering(alloc: Global, a: &Analysis, q: &Reordering<'_>) -> Result<Edits, 
     plan_template(alloc, a, path_text(&path), q.line, q.column, &order)
 }
 
-// The path as text.
-fn path_text(path: &Text) -> &str
+// The edits of a new order of a macro's parameters.
+fn turning(alloc: Global, a: &Analysis, q: &Reordering<'_>) -> Result<Edits, PlanFault>
+    ensures answer { GivesOne (λ edits. edits) refusal_of result (IsEdit (macro_asked (template_value q.now)) a.now.value) }
+    ensures keeps { IfOk result (λ edits. KeepsOver (macro_asked (template_value q.now)) a.now.value edits) }
+{
+    let path = normal_path(alloc, q.path.as_bytes())?;
+    let order = order_of(alloc, q.order.as_bytes())?;
+    plan_macro(alloc, a, path_text(&path), q.line, q.column, &order)
+}
+
+/// The path as text.
+pub(crate) fn path_text(path: &Text) -> &str
     requires { IsUtf8 path.now }
     ensures { result.now ≡ path.now }
 {

@@ -7,8 +7,10 @@ ghost use Rattle.cscout_run.specs.Steps.{Answers, IsPlanned, IsPlannedFor, Plann
 
 use crate::analysing::{edit_over, report_over};
 use crate::batches::batch_over;
+use crate::checks::check_over;
 use crate::generating::prepare_generated;
 use crate::stops::Stop;
+use crate::trims::trim_over;
 use crate::units::{skipped_over, tokens_over};
 use crate::workspace_files::read_workspace;
 use command_words::{Ask, Request, help, version};
@@ -80,7 +82,7 @@ fn prepare_over<F: Files>(
     over_workspace(alloc, &ws, ask, files)
 }
 
-// The same once the workspace file is read. Reports and edits want an analysis.
+// The same once the workspace file is read. Reports, edits and trims want an analysis.
 fn over_workspace<F: Files>(
     alloc: Global,
     ws: &Workspace,
@@ -95,8 +97,10 @@ fn over_workspace<F: Files>(
     match ask {
         Ask::Tokens(unit) => tokens_over(alloc, ws, *unit, files),
         Ask::Skipped => skipped_over(alloc, ws, files),
+        Ask::Check => check_over(alloc, ws, files),
         Ask::Report(report) => report_over(alloc, ws, report, files),
         Ask::Edit(edit) => edit_over(alloc, ws, edit, files),
+        Ask::Trim(stays) => trim_over(alloc, ws, *stays, files),
         Ask::Batch(file) => batch_over(alloc, ws, file, files),
     }
 }

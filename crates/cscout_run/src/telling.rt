@@ -72,6 +72,7 @@ fn tell_refusal<E: Sink>(err: &mut E, refusal: &Refusal)
         Refusal::BadName => tell(err, &[b"refused: ", b"bad name"]),
         Refusal::NoName => tell(err, &[b"refused: ", b"no name"]),
         Refusal::NotAFunction => tell(err, &[b"refused: ", b"not a function"]),
+        Refusal::NotAMacro => tell(err, &[b"refused: ", b"not a macro"]),
         Refusal::BadOrder => tell(err, &[b"refused: ", b"bad order"]),
         Refusal::Offence { place, cause } => tell_offence(err, place, *cause),
     }

@@ -57,8 +57,8 @@ pub fn run<F: Files, O: Sink, E: Sink>(
     ready_status(ready.refused)
 }
 
-// How a run ends that nothing stopped.
-fn ready_status(refused: bool) -> Status
+/// How a run ends that nothing stopped.
+pub(crate) fn ready_status(refused: bool) -> Status
     ensures { result ≡ ready_status refused }
 {
     if refused {
@@ -68,8 +68,8 @@ fn ready_status(refused: bool) -> Status
     }
 }
 
-// Writes the text in one call, and makes none where it is empty.
-fn write_text<O: Sink>(out: &mut O, text: &[u8]) -> Wrote
+/// Writes the text in one call, and makes none where it is empty.
+pub(crate) fn write_text<O: Sink>(out: &mut O, text: &[u8]) -> Wrote
     ensures bytes { Writes text.now (O.bytes out.old) (O.bytes out.new) result }
     ensures faults { Faults (write_failed result) (O.failed_writes out.old) (O.failed_writes out.new) }
 {

@@ -21,3 +21,4 @@ pub mod ResizeCall
 pub mod HistoryFacts
 pub mod WholenessFacts
 pub mod ResizingFacts
+pub mod WalkFacts

@@ -30,10 +30,6 @@ use Rattle.eclass_map.proofs.ResizedKept.{ResizedIn, new_table, IsKept-resized}
 use Rattle.class_labels.proofs.ListFacts.{now_at}
 use Rattle.eclass_map.proofs.PartLaws.{has_parts}
 
-maps_same : {A B C D : Type 0} (f : B → D) (g : A → B) (h : C → D) (k : A → C) (xs : List A) → ((i : ℕ) (x : A) → slice_get xs i ≡ Some x → f (g x) ≡ h (k x)) → map f (map g xs) ≡ map h (map k xs)
-maps_same f g h k [] same = refl
-maps_same f g h k (x ∷ xs) same = ap (λ v. v ∷ map f (map g xs)) (same 0 x refl) ∙ ap (λ v. h (k x) ∷ v) (maps_same f g h k xs (λ i y at. same (suc i) y at))
-
 in_maps_same : (f : ℕ → Part) (g : ℕ → ℕ) (h : Part → Part) (k : ℕ → Part) (xs : List ℕ) → ((x : ℕ) → In x xs → f (g x) ≡ h (k x)) → map f (map g xs) ≡ map h (map k xs)
 in_maps_same f g h k [] same = refl
 in_maps_same f g h k (x ∷ xs) same = ap (λ v. v ∷ map f (map g xs)) (same x (inl refl)) ∙ ap (λ v. h (k x) ∷ v) (in_maps_same f g h k xs (λ y i. same y (inr i)))

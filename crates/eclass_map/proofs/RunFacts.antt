@@ -1,7 +1,7 @@
 -- Positions as runs of neighbours.
 use Rattle.std.proofs.Common.{◌≡◌, ℕ, ◌+◌, ◌-◌, ◌<◌, ◌≤◌, ◌^◌, List, [], ◌∷◌, ◌++◌, zero, suc, length, get_or, drop, refl, ap, sym, subst, ◌∙◌, arith, append_assoc, length-append, Some}
 use Rattle.std.specs.Prelude.{slice_get}
-use Rattle.std.proofs.lemmas.List.{append-nil, drop_more, drop_all}
+use Rattle.std.proofs.lemmas.List.{append-nil, drop_all}
 use Rattle.std.proofs.lemmas.Option.{get_or_from_slice_get}
 use Rattle.cs_base.specs.declared.positions.Pos.{Pos}
 use Rattle.eclass_map.specs.declared.places.Run.{Run}
@@ -10,13 +10,6 @@ use Rattle.eclass_map.specs.ClassTable.{fresh_places, nowhere}
 use Rattle.eclass_map.specs.Places.{no_run, next_first, places_of, AreRuns}
 use Rattle.class_labels.proofs.AddFacts.{slice_get-append_left, slice_get-append_right}
 use Rattle.eclass_map.proofs.InsertFacts.{fresh_places_none, fresh_places_more, fresh_places-at, length-fresh_places}
-
-runs_within : (from n : ℕ) (runs : List Run) → AreRuns from runs n → from ≤ n
-runs_within from n [] are = omega (arith, are)
-runs_within from n (r ∷ runs) are =
-    let rest = runs_within (next_first runs n) n runs are.3 in
-    let some = are.1 in
-    omega (arith, rest, some)
 
 pub length-places_of : (from n : ℕ) (runs : List Run) → AreRuns from runs n → length (places_of runs n) + from ≡ n
 length-places_of from n [] are = omega (arith, are)
@@ -65,9 +58,6 @@ first_least from n (suc k) (r ∷ runs) are within =
 pub begins_first : (n x : ℕ) (runs : List Run) → AreRuns 0 runs n → x < n → (0 < length runs) × ((get_or runs 0 no_run).first ≤ x)
 begins_first n x [] are held = absurd (omega (arith, are, held))
 begins_first n x (r ∷ runs) are held = let first = are.0 in (omega arith, omega (arith, first))
-
-pub next_at : (runs : List Run) (k n : ℕ) → k < length runs → next_first (drop k runs) n ≡ (get_or runs k no_run).first
-next_at runs k n within = ap (λ v. next_first v n) (drop_more runs k no_run within)
 
 pub next_end : (runs : List Run) (k n : ℕ) → length runs ≤ k → next_first (drop k runs) n ≡ n
 next_end runs k n past = ap (λ v. next_first v n) (drop_all k runs past)

@@ -157,17 +157,6 @@ pub found_here : (tokens : List Added) (p : Pos) (count : ℕ) (r : Added) → A
     → index_at tokens p ≡ Some (r.first + (p.at - r.place.start.at))
 found_here tokens p count r are h some at held = index_at_some tokens p (count - 1) r at held (λ j s before there other. not_held_before s r p (are.ordered j (count - 1) s r before there at) (begun_where_held r p held) other)
 
--- a step of the halving
-pub halve_up : (tokens : List Added) (p : Pos) (middle : ℕ) (r : Added) → AreTokens tokens → slice_get tokens middle ≡ Some r → begins_by r p ≡ true
-    → (k : ℕ) (s : Added) → k < middle + 1 → slice_get tokens k ≡ Some s → begins_by s p ≡ true
-halve_up tokens p middle r are at yes' k s less there = elim (cases_eq k middle) [
-  | inl e ↦
-      let P : ℕ → Type 0 = λ v. slice_get tokens v ≡ Some s in
-      let Q : Added → Type 0 = λ v. begins_by v p ≡ true in
-      subst Q (same_Some r s (sym at ∙ subst P e there)) yes'
-  | inr ne ↦ begun_before s r p (are.ordered k middle s r (omega arith) there at) yes'
-]
-
 pub halve_down : (tokens : List Added) (p : Pos) (middle : ℕ) (r : Added) → AreTokens tokens → slice_get tokens middle ≡ Some r → begins_by r p ≡ false
     → (k : ℕ) (s : Added) → middle ≤ k → slice_get tokens k ≡ Some s → begins_by s p ≡ false
 halve_down tokens p middle r are at no' k s least there = false_from_ne_true (begins_by s p) (λ begins. both_ways (begins_by r p) no' (elim (cases_eq k middle) [

@@ -4,7 +4,6 @@ use Rattle.std.specs.Prelude.{slice_get}
 use Rattle.std.specs.List.{flat_map}
 use Rattle.std.specs.Option.{option_and_then}
 use Rattle.std.proofs.lemmas.Bool.{cases_eq, cases_lt, both_ways}
-use Rattle.std.proofs.lemmas.List.{drop_all}
 use Rattle.std.proofs.lemmas.Option.{none-some, same_Some}
 use Rattle.cs_base.specs.declared.positions.Pos.{Pos}
 use Rattle.cs_base.specs.declared.positions.Part.{Part}
@@ -178,14 +177,6 @@ lies_not tokens os k start found are at is_found begins not_found token is lies 
 
 -- ---- the origin of a character
 
-origin_told : (o : Option (Option Pos)) (p : Pos) → option_and_then (λ origin. origin) o ≡ Some p → o ≡ Some (Some p)
-origin_told None p e = absurd (none-some p e)
-origin_told (Some None) p e = absurd (none-some p e)
-origin_told (Some (Some q)) p e = ap (λ v. Some v) e
-
-pub origin_stands : (t : Token) (k : ℕ) (p : Pos) (o : Option Pos) → o ≡ origin_at t k → o ≡ Some p → slice_get t.origins k ≡ Some (Some p)
-origin_stands t k p o e f = origin_told (slice_get t.origins k) p (sym e ∙ f)
-
 pub no_origin : (tokens : List Added) (t : Token) (k : ℕ) (o : Option Pos) → AreTokens tokens → o ≡ origin_at t k → o ≡ None → (token : Part) → IsIn tokens token → LiesAt t.origins k token → ⊥
 no_origin tokens t k o are e f token is lies =
     let first = lies_first t.origins k token (some_in tokens token are is) lies in
@@ -238,6 +229,3 @@ none_by tokens os k below none (u ∷ us) each e = none u (each 0 u refl) (lies_
 -- no token lies where the rest begins
 pub whole_never : (tokens : List Added) (os : List (Option Pos)) (k : ℕ) → k < length os → ((token : Part) → IsIn tokens token → LiesAt os k token → ⊥) → AreWhole (of_tokens tokens) (drop k os) → ⊥
 whole_never tokens os k below none w = none_by tokens os k below none w.tokens w.added w.each
-
-pub whole_end : (tokens : List Added) (os : List (Option Pos)) (k : ℕ) → length os ≤ k → AreWhole (of_tokens tokens) (drop k os)
-whole_end tokens os k past = record { tokens = []; added = λ j u at. absurd (none-some u at); each = drop_all k os past }

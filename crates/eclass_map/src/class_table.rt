@@ -15,6 +15,7 @@ ghost use Rattle.cs_base.specs.declared.positions.Part.{Part};
 
 mod class_numbers;
 mod resizing;
+mod walks;
 
 use crate::file_hints::{add_hints, missing_hints};
 use crate::places::{Places, place_runs};

@@ -12,7 +12,7 @@ use Rattle.std.proofs.lemmas.List.Elements.{All-nil, All-cons, All-head, All-tai
 use Rattle.std.proofs.lemmas.Map.Text.{is_eq-slice_cmp}
 use Rattle.cs_base.specs.Edit.{Edit, comes_before, comes_last, are_in_order, HaveTextPaths, IsKept}
 use Rattle.cs_base.proofs.FileMapLemmas.{bytes_eq-same, bytes_eq-equal, comes_before-apart}
-use Rattle.edited_files.specs.Edited.{with_edit, with_each}
+use Rattle.edited_files.specs.Edited.{with_edit}
 
 -- the edits behind the first are in order
 pub are_in_order-tail : (e : Edit) (es : List Edit) → IsTrue (are_in_order (e ∷ es)) → IsTrue (are_in_order es)
@@ -95,12 +95,6 @@ texts_with e (d ∷ es) texts text = elim (cases_Bool (comes_before d.path e.pat
 
 pub kept_with : (e : Edit) (es : List Edit) → IsKept es → IsUtf8 e.path → length (with_edit e es) < 2 ^ 32 → IsKept (with_edit e es)
 kept_with e es kept text few = record { sorted = order_with e es kept.sorted; texts = texts_with e es kept.texts text; few = few }
-
--- the order stays where more edits are put
-pub order_each : (new es : List Edit) → IsTrue (are_in_order es) → IsTrue (are_in_order (with_each new es))
-unfolding with_each
-order_each [] es sorted = sorted
-order_each (e ∷ new) es sorted = order_each new (with_edit e es) (order_with e es sorted)
 
 -- one edit more at most
 pub len_with : (e : Edit) (es : List Edit) → length (with_edit e es) ≤ length es + 1

@@ -115,13 +115,6 @@ put_each new es fs ordered sorted = record {
   others = λ path apart. each_other new es path fs sorted apart;
 }
 
--- so they are where they are put one after another
-held_at : (es : List Edit) (k : ℕ) (e : Edit) (fs : FileMap) → IsTrue (are_in_order es) → slice_get es k ≡ Some e → bytes_at e.path (with_edits es fs) ≡ Some e.bytes
-held_at [] k e fs sorted at = absurd (none-some e at)
-held_at (d ∷ es) zero e fs sorted at =
-    subst (λ (x : Edit). bytes_at x.path (with_edits (d ∷ es) fs) ≡ Some x.bytes) (same_Some d e at) (bytes_at-with_edits (d ∷ es) fs 0 d sorted (omega arith))
-held_at (d ∷ es) (suc k) e fs sorted at = held_at es k e (with_file d.path d.bytes fs) (are_in_order-tail d es sorted) at
-
 -- ---- edit by edit
 
 each_next : (edits es : List Edit) (k : ℕ) (path bytes : List ℕ) (count : ℕ) → k < length edits → IfSome (slice_get edits k) (λ e. path ≡ e.path)

@@ -234,6 +234,8 @@ number_for_line kind.Tested def o t i = absurd (let e = i.1 in cc)
 number_for_line kind.Left def o t i = absurd (let e = i.1 in cc)
 number_for_line kind.Enter def o t i = absurd (let e = i.1 in cc)
 number_for_line kind.Leave def o t i = absurd (let e = i.1 in cc)
+number_for_line kind.Once def o t i = absurd (let e = i.1 in cc)
+number_for_line kind.Passed def o t i = absurd (let e = i.1 in cc)
 
 line_origin : (t : Token) → (name : Token) × (line_number name ≡ t) → (k : ℕ) (p : Pos) → slice_get t.origins k ≡ Some (Some p) → p.file ≡ 0
 line_origin t line k p at =

@@ -13,7 +13,8 @@ use Rattle.analysis.specs.Below.c99_read.Reading.{Stop, read_of}
 use Rattle.analysis.specs.Below.c99_grammar.Dialects.{dialect}
 use Rattle.analysis.specs.Below.c99_grammar.Standard.{grammar}
 use Rattle.analysis.specs.Below.scope_bind.Named.{Fault as BindFault}
-use Rattle.analysis.specs.Below.scope_bind.Bound.{Bound, binding_of}
+use Rattle.analysis.specs.Below.scope_bind.Bound.{Bound}
+use Rattle.analysis.specs.Below.gnu_bind.Bound.{binding_by}
 use Rattle.analysis.specs.Below.scope_bind.Causes.{cause_of, index_of}
 use Rattle.analysis.specs.Texts.{TextsValue, texts_and, UnitFault, unit_fault, with_front, unit_with, texts_from}
 use Rattle.analysis.specs.Analysis.{UnitAnalysis, unit_analysis, UnitsValue, units_and, AnalysisValue, analysis_and, with_unit, fault_at_index, bound_unit, read_unit, unit_read, stop_index, stop_cause, analysed_from}
@@ -48,11 +49,11 @@ unit-of : (standard : Standard) (number : ℕ) (path : List ℕ) (p : Preprocess
 unit-of standard number path p u h =
     let whole : read_unit standard p.after.table path p.text ≡ Ok u = unmapped (unit_fault number) (read_unit standard p.after.table path p.text) u h in
     let tree = then-ok (bound_unit standard p.after.table path p.text) (result_map_err (stopped p path) (read_of (grammar (dialect standard)) p.text.toks)) u whole in
-    let bound = then-ok {E = Fault} (λ (b : Bound). Ok (unit_analysis standard p.text tree.0 b)) (result_map_err (unbound p path) (binding_of p.text.toks tree.0)) u tree.2 in
+    let bound = then-ok {E = Fault} (λ (b : Bound). Ok (unit_analysis standard p.text tree.0 b)) (result_map_err (unbound p path) (binding_by standard p.text.toks tree.0)) u tree.2 in
     let same : unit_analysis standard p.text tree.0 bound.0 ≡ u = ok-same {E = Fault} (unit_analysis standard p.text tree.0 bound.0) u bound.2 in
     let read : IsRead (unit_analysis standard p.text tree.0 bound.0) = record {
       reads = unmapped (stopped p path) (read_of (grammar (dialect standard)) p.text.toks) tree.0 tree.1;
-      binds = unmapped (unbound p path) (binding_of p.text.toks tree.0) bound.0 bound.1;
+      binds = unmapped (unbound p path) (binding_by standard p.text.toks tree.0) bound.0 bound.1;
     } in
     record { same = sym (ap (λ (x : UnitAnalysis). x.text) same); own = sym (ap (λ (x : UnitAnalysis). x.standard) same); read = subst IsRead same read }
 
@@ -61,7 +62,8 @@ of-unit : (standard : Standard) (number : ℕ) (path : List ℕ) (p : Preprocess
 of-unit standard number path p u same own read =
     let here : read_of (grammar (dialect u.standard)) p.text.toks ≡ Ok u.tree = subst (λ (x : UnitTextValue). read_of (grammar (dialect u.standard)) x.toks ≡ Ok u.tree) same read.reads in
     let reads : read_of (grammar (dialect standard)) p.text.toks ≡ Ok u.tree = subst (λ (x : Standard). read_of (grammar (dialect x)) p.text.toks ≡ Ok u.tree) own here in
-    let binds : binding_of p.text.toks u.tree ≡ Ok u.bound = subst (λ (x : UnitTextValue). binding_of x.toks u.tree ≡ Ok u.bound) same read.binds in
+    let bound : binding_by u.standard p.text.toks u.tree ≡ Ok u.bound = subst (λ (x : UnitTextValue). binding_by u.standard x.toks u.tree ≡ Ok u.bound) same read.binds in
+    let binds : binding_by standard p.text.toks u.tree ≡ Ok u.bound = subst (λ (x : Standard). binding_by x p.text.toks u.tree ≡ Ok u.bound) own bound in
     rw reads (rw binds (
     ap (λ (x : UnitTextValue). Ok (unit_analysis standard x u.tree u.bound)) (sym same)
     ∙ ap (λ (x : Standard). Ok (unit_analysis x u.text u.tree u.bound)) (sym own)

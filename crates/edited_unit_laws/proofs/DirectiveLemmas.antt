@@ -1,28 +1,30 @@
 -- Directive lines that define a macro, take one away, or ask for one, over the edited files.
-use Rattle.std.proofs.Common.{◌≡◌, Bool, true, List, [], ◌∷◌, ◌++◌, map, Option, Some, None, Ok, refl, ap, sym, subst, ◌∙◌}
+use Rattle.std.proofs.Common.{◌≡◌, Bool, true, false, List, [], ◌∷◌, ◌++◌, map, Option, Some, None, Ok, refl, ap, sym, subst, ◌∙◌, Err, codes, cond, not}
 use Rattle.std.specs.Option.{option_map}
 use Rattle.std.proofs.lemmas.List.{map-append}
+use Rattle.cs_base.specs.declared.causes.Cause.TheVariants.{BadDirective}
 use Rattle.cs_base.specs.declared.positions.Pos.{Pos}
 use Rattle.cs_base.specs.Token.{Token}
 use Rattle.line_shape.specs.declared.items.ItemKind.{ItemKind}
 use Rattle.line_shape.specs.declared.items.ItemKind.TheVariants as kind
 use Rattle.line_shape.specs.Directives.{takes_name}
 use Rattle.line_shape.specs.Items.{line_kind}
-use Rattle.line_shape.specs.Signs.{is_name}
+use Rattle.line_shape.specs.Signs.{is_name, is_word}
 use Rattle.line_shape.specs.MacroLine.{MacroParts, macro_of}
 use Rattle.macro_body.specs.declared.definitions.Definition.{Definition}
-use Rattle.macro_body.specs.Defining.{definition_of, defined_by}
+use Rattle.macro_body.specs.Defining.{definition_of, defined_by, in_gnu}
+use Rattle.source_files.specs.Faults.{fault_at}
 use Rattle.macro_body.specs.Live.{with_macro, without_macro}
 use Rattle.macro_body.specs.Macro.{Table as Macros}
 use Rattle.macro_expand.specs.Renaming.{spelled, renamed, renamed_macro, occurs}
 use Rattle.source_files.specs.Files.{SourceFile}
 use Rattle.unit_steps.specs.Notes.{Note, Defined, Undefined, Tested}
-use Rattle.unit_steps.specs.State.{State, did}
+use Rattle.unit_steps.specs.State.{State, did, Outcome}
 use Rattle.unit_steps.specs.Names.{name_links, with_name, definition_links}
 use Rattle.unit_steps.specs.Conditions.{is_macro, test_notes}
-use Rattle.unit_steps.specs.Directives.{operand_in, define_notes, after_define, defined_as, define_of, undefined_as, undef_of, asks_name}
+use Rattle.unit_steps.specs.Directives.{operand_in, define_notes, after_define, defined_as, define_of, undefined_as, undef_of, asks_name, may_define}
 use Rattle.edited_unit_laws.specs.Lines.{Each, KeepsToken, KeepsParameters, defines, KeepsLine}
-use Rattle.edited_unit_laws.proofs.MacroLineLemmas.{definitions_are_renamed}
+use Rattle.edited_unit_laws.proofs.MacroLineLemmas.{definitions_are_renamed, any-kept}
 use Rattle.edited_unit_laws.specs.Keeping.{Change, KeepsNames, Fits}
 use Rattle.edited_unit_laws.specs.Renamed.{renamed_happening}
 use Rattle.edited_unit_laws.specs.Steps.{IsTaken, moved, GoesAlike, IsPutOutRenamed, IsSame}
@@ -40,12 +42,17 @@ pub record IsKnown (c : Change) (name : Token) : Type 0 where
 pub kept-tokens : (c : Change) (toks : List Token) → Each (Fits c) toks → Each (KeepsToken c.renaming) toks
 kept-tokens c toks h = each-more (Fits c) (KeepsToken c.renaming) toks (λ t k. k.1) h
 
+-- what a line gives that defines this macro, where a unit may have it or not
+abbrev line_gives : SourceFile → Pos → Definition → State → Bool → Outcome (List Token)
+line_gives file at m s b = cond b (Ok (did [] (define_notes m s) (after_define m s))) (Err (fault_at file at BadDirective))
+
 module _ (c : Change) (names : KeepsNames c) where
   -- ---- definitions
 
-  define-goes : (m : Definition) → IsKnown c m.name → PartsGo c m.params m.body → (file new : SourceFile) (at : Pos) (macros : Macros) (s : State)
-      → GoesAlike c (IsPutOutRenamed c) macros s (Ok (did [] (define_notes m s) (after_define m s))) (defined_as new at (moved c macros s) (Some (renamed_macro c.renaming m)))
-  define-goes m known parts file new at macros s = λ reach kept told.
+  defined-goes : (m : Definition) → IsKnown c m.name → PartsGo c m.params m.body → (macros : Macros) (s : State)
+      → GoesAlike c (IsPutOutRenamed c) macros s (Ok (did [] (define_notes m s) (after_define m s)))
+      (Ok (did [] (define_notes (renamed_macro c.renaming m) (moved c macros s)) (after_define (renamed_macro c.renaming m) (moved c macros s))))
+  defined-goes m known parts macros s = λ reach kept told.
       let taken : IsTaken c m.name = record { occurs = known.occurs; named = known.named; keeps = told.0 } in
       let macros2 : Macros = with_macro (renamed_macro c.renaming m) macros in
       let links : name_links (renamed c.renaming m.name) (moved c macros s) ++ definition_links (renamed_macro c.renaming m) ≡ map (renamed_happening c.renaming) (name_links m.name s ++ definition_links m) =
@@ -65,26 +72,44 @@ module _ (c : Change) (names : KeepsNames c) where
         };
       }
 
-  define-by : (hash word name : Token) (ts : List Token) (o : Option MacroParts) → macro_of ts ≡ o → Each (Fits c) (hash ∷ word ∷ name ∷ ts) → IsKnown c name → KeepsParameters c.renaming ts
+  -- a renamed macro is one that the unit may have exactly where the macro was
+  may-kept : (gnu : Bool) (m : Definition) → PartsGo c m.params m.body → may_define gnu (renamed_macro c.renaming m) ≡ may_define gnu m
+  may-kept false m parts = refl
+  may-kept true m parts =
+      ap not (any-kept c.renaming (is_word (codes "__VA_OPT__")) m.body
+      (each-more (KeepsToken c.renaming) (λ t. is_word (codes "__VA_OPT__") (renamed c.renaming t) ≡ is_word (codes "__VA_OPT__") t) m.body (λ t k. k.opts) (kept-tokens c m.body parts.body)))
+
+  either-goes : (gnu : Bool) (m : Definition) → IsKnown c m.name → PartsGo c m.params m.body → (file new : SourceFile) (at at2 : Pos) (macros : Macros) (s : State) (b : Bool)
+      → GoesAlike c (IsPutOutRenamed c) macros s (line_gives file at (in_gnu gnu m) s b) (line_gives new at2 (renamed_macro c.renaming (in_gnu gnu m)) (moved c macros s) b)
+  either-goes gnu m known parts file new at at2 macros s true = defined-goes (in_gnu gnu m) known parts macros s
+  either-goes gnu m known parts file new at at2 macros s false = tt
+
+  define-goes : (gnu : Bool) (m : Definition) → IsKnown c m.name → PartsGo c m.params m.body → (file new : SourceFile) (at at2 : Pos) (macros : Macros) (s : State)
+      → GoesAlike c (IsPutOutRenamed c) macros s (defined_as gnu file at s (Some m)) (defined_as gnu new at2 (moved c macros s) (Some (renamed_macro c.renaming m)))
+  define-goes gnu m known parts file new at at2 macros s =
+      subst (λ (b : Bool). GoesAlike c (IsPutOutRenamed c) macros s (line_gives file at (in_gnu gnu m) s (may_define gnu m)) (line_gives new at2 (renamed_macro c.renaming (in_gnu gnu m)) (moved c macros s) b))
+      (sym (may-kept gnu m parts)) (either-goes gnu m known parts file new at at2 macros s (may_define gnu m))
+
+  define-by : (gnu : Bool) (hash word name : Token) (ts : List Token) (o : Option MacroParts) → macro_of ts ≡ o → Each (Fits c) (hash ∷ word ∷ name ∷ ts) → IsKnown c name → KeepsParameters c.renaming ts
       → (file new : SourceFile) (at at2 : Pos) (macros : Macros) (s : State)
-      → GoesAlike c (IsPutOutRenamed c) macros s (defined_as file at s (option_map (definition_of name) o)) (define_of new at2 (map (renamed c.renaming) (hash ∷ word ∷ name ∷ ts)) (moved c macros s))
-  define-by hash word name ts None is h known same file new at at2 macros s = tt
-  define-by hash word name ts (Some parts) is h known same file new at at2 macros s =
+      → GoesAlike c (IsPutOutRenamed c) macros s (defined_as gnu file at s (option_map (definition_of name) o)) (define_of gnu new at2 (map (renamed c.renaming) (hash ∷ word ∷ name ∷ ts)) (moved c macros s))
+  define-by gnu hash word name ts None is h known same file new at at2 macros s = tt
+  define-by gnu hash word name ts (Some parts) is h known same file new at at2 macros s =
       let anew : defined_by (map (renamed c.renaming) (hash ∷ word ∷ name ∷ ts)) ≡ Some (renamed_macro c.renaming (definition_of name parts)) =
       definitions_are_renamed c.renaming (hash ∷ word ∷ name ∷ ts) (kept-tokens c (hash ∷ word ∷ name ∷ ts) h) same
       ∙ ap (λ (p : Option MacroParts). option_map (renamed_macro c.renaming) (option_map (definition_of name) p)) is in
-      subst (λ (o : Option Definition). GoesAlike c (IsPutOutRenamed c) macros s (defined_as file at s (Some (definition_of name parts))) (defined_as new at2 (moved c macros s) o)) (sym anew)
-      (define-goes (definition_of name parts) known (macro-goes c ts parts h.1.1.1 same is) file new at2 macros s)
+      subst (λ (o : Option Definition). GoesAlike c (IsPutOutRenamed c) macros s (defined_as gnu file at s (Some (definition_of name parts))) (defined_as gnu new at2 (moved c macros s) o)) (sym anew)
+      (define-goes gnu (definition_of name parts) known (macro-goes c ts parts h.1.1.1 same is) file new at at2 macros s)
 
-  pub define-alike : (file new : SourceFile) (at at2 : Pos) (toks : List Token) (macros : Macros) (s : State) → Each (Fits c) toks → line_kind toks ≡ kind.Define → KeepsLine c.renaming toks
-      → GoesAlike c (IsPutOutRenamed c) macros s (define_of file at toks s) (define_of new at2 (map (renamed c.renaming) toks) (moved c macros s))
-  define-alike file new at at2 [] macros s h is keeps = tt
-  define-alike file new at at2 (hash ∷ []) macros s h is keeps = tt
-  define-alike file new at at2 (hash ∷ word ∷ []) macros s h is keeps = tt
-  define-alike file new at at2 (hash ∷ word ∷ name ∷ ts) macros s h is keeps =
+  pub define-alike : (gnu : Bool) (file new : SourceFile) (at at2 : Pos) (toks : List Token) (macros : Macros) (s : State) → Each (Fits c) toks → line_kind toks ≡ kind.Define → KeepsLine c.renaming toks
+      → GoesAlike c (IsPutOutRenamed c) macros s (define_of gnu file at toks s) (define_of gnu new at2 (map (renamed c.renaming) toks) (moved c macros s))
+  define-alike gnu file new at at2 [] macros s h is keeps = tt
+  define-alike gnu file new at at2 (hash ∷ []) macros s h is keeps = tt
+  define-alike gnu file new at at2 (hash ∷ word ∷ []) macros s h is keeps = tt
+  define-alike gnu file new at at2 (hash ∷ word ∷ name ∷ ts) macros s h is keeps =
       let takes = takes-name kind.Define hash word name ts refl is in
       let defines_it : defines word ≡ true = rw takes.word refl in
-      define-by hash word name ts (macro_of ts) refl h (record { occurs = h.1.1.0.0; named = takes.name }) ((keeps takes.hash).1 defines_it) file new at at2 macros s
+      define-by gnu hash word name ts (macro_of ts) refl h (record { occurs = h.1.1.0.0; named = takes.name }) ((keeps takes.hash).1 defines_it) file new at at2 macros s
 
   -- ---- names that are taken away
 

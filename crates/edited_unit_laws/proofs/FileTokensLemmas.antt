@@ -71,6 +71,8 @@ number-renamed r stay kind.Tested def name h = refl
 number-renamed r stay kind.Left def name h = refl
 number-renamed r stay kind.Enter def name h = refl
 number-renamed r stay kind.Leave def name h = refl
+number-renamed r stay kind.Once def name h = refl
+number-renamed r stay kind.Passed def name h = refl
 
 events-renamed : (r : Renaming) → NumbersStay r → (es : List Event) → Each (NamesLineAsBefore r) es
     → flat_map number_of_event (map (renamed_event r) es) ≡ map (renamed r) (flat_map number_of_event es)

@@ -62,21 +62,26 @@ word-none false x y is = refl
 unfoldable pub keeps_text : Renaming → Occurring
 keeps_text r kind origins text = cond (is_identifier kind)
     (same (bytes_eq (r.spell origins text) (codes "defined")) (bytes_eq text (codes "defined"))
-    && same (bytes_eq (r.spell origins text) (codes "__VA_ARGS__")) (bytes_eq text (codes "__VA_ARGS__")))
+    && same (bytes_eq (r.spell origins text) (codes "__VA_ARGS__")) (bytes_eq text (codes "__VA_ARGS__"))
+    && same (bytes_eq (r.spell origins text) (codes "__VA_OPT__")) (bytes_eq text (codes "__VA_OPT__")))
     (cond (is_fixed kind) (bytes_eq (r.spell origins text) text) true)
 
 -- the token occurs, and its new spelling does
 unfoldable pub fits : Change → Occurring
 fits c kind origins text = c.occurring kind origins text && keeps_text c.renaming kind origins text
 
--- the same of both words, and of what is no identifier
-keeps-name : (n a b d e other : Bool) → n ≡ true → a ≡ b → d ≡ e → cond n (same a b && same d e) other ≡ true
-keeps-name true a b d e other is h k = and_from (same a b) (same d e) (same-of a b h) (same-of d e k)
-keeps-name false a b d e other is h k = absurd (cc)
+-- the same of the three words, and of what is no identifier
+keeps-name : (n a b d e f g other : Bool) → n ≡ true → a ≡ b → d ≡ e → f ≡ g → cond n (same a b && same d e && same f g) other ≡ true
+keeps-name true a b d e f g other is h k l =
+    and_from (same a b && same d e) (same f g) (and_from (same a b) (same d e) (same-of a b h) (same-of d e k)) (same-of f g l)
+keeps-name false a b d e f g other is h k l = absurd (cc)
 
-name-keeps : (n a b d e other : Bool) → n ≡ true → cond n (same a b && same d e) other ≡ true → (a ≡ b) × (d ≡ e)
-name-keeps true a b d e other is h = let k = and_parts (same a b) (same d e) h in (same-true a b k.0, same-true d e k.1)
-name-keeps false a b d e other is h = absurd (cc)
+name-keeps : (n a b d e f g other : Bool) → n ≡ true → cond n (same a b && same d e && same f g) other ≡ true → (a ≡ b) × (d ≡ e) × (f ≡ g)
+name-keeps true a b d e f g other is h =
+    let k = and_parts (same a b && same d e) (same f g) h in
+    let l = and_parts (same a b) (same d e) k.0 in
+    (same-true a b l.0, same-true d e l.1, same-true f g k.1)
+name-keeps false a b d e f g other is h = absurd (cc)
 
 keeps-other : (n name other : Bool) → n ≡ false → other ≡ true → cond n name other ≡ true
 keeps-other true name other is h = absurd (cc)
@@ -111,12 +116,15 @@ keeps-true r t h = by (cases_Bool (is_identifier t.kind))
     by : (is_identifier t.kind ≡ true) ⊎ (is_identifier t.kind ≡ false) → keeps_text r t.kind t.origins t.text ≡ true
     by (inl name) =
         keeps-name (is_identifier t.kind) (bytes_eq (spelled r t) (codes "defined")) (bytes_eq t.text (codes "defined")) (bytes_eq (spelled r t) (codes "__VA_ARGS__")) (bytes_eq t.text (codes "__VA_ARGS__"))
+        (bytes_eq (spelled r t) (codes "__VA_OPT__")) (bytes_eq t.text (codes "__VA_OPT__"))
         (cond (is_fixed t.kind) (bytes_eq (spelled r t) t.text) true) name
         (word-stays (is_identifier t.kind) (bytes_eq (spelled r t) (codes "defined")) (bytes_eq t.text (codes "defined")) name h.asks)
         (word-stays (is_identifier t.kind) (bytes_eq (spelled r t) (codes "__VA_ARGS__")) (bytes_eq t.text (codes "__VA_ARGS__")) name h.rest)
+        (word-stays (is_identifier t.kind) (bytes_eq (spelled r t) (codes "__VA_OPT__")) (bytes_eq t.text (codes "__VA_OPT__")) name h.opts)
     by (inr other) =
         keeps-other (is_identifier t.kind)
-        (same (bytes_eq (spelled r t) (codes "defined")) (bytes_eq t.text (codes "defined")) && same (bytes_eq (spelled r t) (codes "__VA_ARGS__")) (bytes_eq t.text (codes "__VA_ARGS__")))
+        (same (bytes_eq (spelled r t) (codes "defined")) (bytes_eq t.text (codes "defined")) && same (bytes_eq (spelled r t) (codes "__VA_ARGS__")) (bytes_eq t.text (codes "__VA_ARGS__"))
+        && same (bytes_eq (spelled r t) (codes "__VA_OPT__")) (bytes_eq t.text (codes "__VA_OPT__")))
         (cond (is_fixed t.kind) (bytes_eq (spelled r t) t.text) true) other
         (fixed-stays (is_fixed t.kind) (bytes_eq (spelled r t) t.text) (λ fixed. (bytes_eq-Decides (spelled r t) t.text).1 (h.others fixed)))
 
@@ -127,7 +135,8 @@ true-keeps r t h = record {
       (bytes_eq-Decides (spelled r t) t.text).0
       (stays-fixed (is_fixed t.kind) (bytes_eq (spelled r t) t.text) fixed
       (other-keeps (is_identifier t.kind)
-      (same (bytes_eq (spelled r t) (codes "defined")) (bytes_eq t.text (codes "defined")) && same (bytes_eq (spelled r t) (codes "__VA_ARGS__")) (bytes_eq t.text (codes "__VA_ARGS__")))
+      (same (bytes_eq (spelled r t) (codes "defined")) (bytes_eq t.text (codes "defined")) && same (bytes_eq (spelled r t) (codes "__VA_ARGS__")) (bytes_eq t.text (codes "__VA_ARGS__"))
+      && same (bytes_eq (spelled r t) (codes "__VA_OPT__")) (bytes_eq t.text (codes "__VA_OPT__")))
       (cond (is_fixed t.kind) (bytes_eq (spelled r t) t.text) true) (fixed-other t.kind fixed) h));
   asks = elim (cases_Bool (is_identifier t.kind)) [
     | inl name ↦ word-back (is_identifier t.kind) (bytes_eq (spelled r t) (codes "defined")) (bytes_eq t.text (codes "defined")) (both name).0
@@ -137,11 +146,17 @@ true-keeps r t h = record {
     | inl name ↦ word-back (is_identifier t.kind) (bytes_eq (spelled r t) (codes "__VA_ARGS__")) (bytes_eq t.text (codes "__VA_ARGS__")) (both name).1
     | inr other ↦ word-none (is_identifier t.kind) (bytes_eq (spelled r t) (codes "__VA_ARGS__")) (bytes_eq t.text (codes "__VA_ARGS__")) other
   ];
+  opts = elim (cases_Bool (is_identifier t.kind)) [
+    | inl name ↦ word-back (is_identifier t.kind) (bytes_eq (spelled r t) (codes "__VA_OPT__")) (bytes_eq t.text (codes "__VA_OPT__")) (both name).2
+    | inr other ↦ word-none (is_identifier t.kind) (bytes_eq (spelled r t) (codes "__VA_OPT__")) (bytes_eq t.text (codes "__VA_OPT__")) other
+  ];
 }
   where
     both : is_identifier t.kind ≡ true → (bytes_eq (spelled r t) (codes "defined") ≡ bytes_eq t.text (codes "defined")) × (bytes_eq (spelled r t) (codes "__VA_ARGS__") ≡ bytes_eq t.text (codes "__VA_ARGS__"))
+        × (bytes_eq (spelled r t) (codes "__VA_OPT__") ≡ bytes_eq t.text (codes "__VA_OPT__"))
     both name =
         name-keeps (is_identifier t.kind) (bytes_eq (spelled r t) (codes "defined")) (bytes_eq t.text (codes "defined")) (bytes_eq (spelled r t) (codes "__VA_ARGS__")) (bytes_eq t.text (codes "__VA_ARGS__"))
+        (bytes_eq (spelled r t) (codes "__VA_OPT__")) (bytes_eq t.text (codes "__VA_OPT__"))
         (cond (is_fixed t.kind) (bytes_eq (spelled r t) t.text) true) name h
 
 pub fits-true : (c : Change) (t : Token) → Fits c t → occurs (fits c) t ≡ true
@@ -164,7 +179,7 @@ pub still-fits : (c : Change) → KeepsNames c → (t : Token) (kind : Kind) →
 unfolding is_va_args
 still-fits c names t kind is other here stays = (
   rw is here,
-  record { others = λ text. stays; asks = rw (is, other) refl; rest = rw (is, other) refl },
+  record { others = λ text. stays; asks = rw (is, other) refl; rest = rw (is, other) refl; opts = rw (is, other) refl },
 )
 
 -- a string literal fits, however it is spelled
@@ -172,7 +187,7 @@ quoted-fits : (c : Change) → KeepsNames c → (s : Token) → s.kind ≡ Str �
 unfolding is_va_args
 quoted-fits c names s is = (
   rw is (names.others Str s.origins s.text refl refl),
-  record { others = λ fixed. absurd (both_ways (is_fixed s.kind) (ap is_fixed is) fixed); asks = rw is refl; rest = rw is refl },
+  record { others = λ fixed. absurd (both_ways (is_fixed s.kind) (ap is_fixed is) fixed); asks = rw is refl; rest = rw is refl; opts = rw is refl },
 )
 
 string-fits : (c : Change) → KeepsNames c → (toks : List Token) (s : Token) → IsStringized toks s → Fits c s

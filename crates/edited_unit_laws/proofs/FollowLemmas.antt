@@ -1,5 +1,5 @@
 -- One step behind another, over the files as they were and over the edited ones.
-use Rattle.std.proofs.Common.{Bool, true, false, cond, List, [], ◌∷◌, ◌++◌, map, Ok, Err, refl, ap, sym, ◌∙◌}
+use Rattle.std.proofs.Common.{ℕ, Bool, true, false, cond, Option, List, [], ◌∷◌, ◌++◌, map, Ok, Err, refl, ap, sym, ◌∙◌}
 use Rattle.std.proofs.lemmas.List.{map-append}
 use Rattle.macro_body.specs.Macro.{Table as Macros}
 use Rattle.source_files.specs.Faults.{Fault}
@@ -8,6 +8,7 @@ use Rattle.unit_steps.specs.Notes.{Note}
 use Rattle.unit_steps.specs.State.{State, Did, did, Outcome, only, noted, onward}
 use Rattle.source_files.specs.Tables.{IsGrown}
 use Rattle.source_files.proofs.TableLemmas.{grown_trans}
+use Rattle.include_tree.specs.Including.{left_to}
 use Rattle.edited_unit_laws.specs.Lines.{Each}
 use Rattle.edited_unit_laws.specs.Keeping.{Change, KeepsNote}
 use Rattle.edited_unit_laws.specs.Renamed.{renamed_happening}
@@ -41,9 +42,37 @@ pub onward-grows : {A B : Type 0} (s : State) (m : Outcome A) (next : A → Stat
 onward-grows s (Ok d) next h k = noted-grows s d.notes (next d.value d.state) (later-grows s d.state (next d.value d.state) h (k d.value d.state))
 onward-grows s (Err found) next h k = tt
 
+pub cond-grows : {A : Type 0} (s : State) (b : Bool) (x y : Outcome A) → Grows s x → Grows s y → Grows s (cond b x y)
+cond-grows s true x y h k = h
+cond-grows s false x y h k = k
+
+pub left-grows : {A : Type 0} (s : State) (behind : Option ℕ) (m : Outcome A) → Grows s m → Grows s (left_to behind m)
+left-grows s behind (Ok d) h = h
+left-grows s behind (Err found) h = tt
+
 -- ---- steps
 
 module _ (c : Change) where
+  -- a search for the next file of a name begins elsewhere, before a step and behind it
+  pub alike-placed : {A : Type 0} (V : A → A → Type 0) (macros : Macros) (s : State) (behind : Option ℕ) (m new : Outcome A)
+      → GoesAlike c V macros (record s { behind = behind }) m new → GoesAlike c V macros s m new
+  alike-placed V macros s behind (Err found) new h = tt
+  alike-placed V macros s behind (Ok d) new h = λ reach kept told.
+      h reach (record { macros = kept.macros; bodies = kept.bodies; names = kept.names }) told
+
+  pub alike-left : {A : Type 0} (V : A → A → Type 0) (macros : Macros) (s : State) (behind : Option ℕ) (m new : Outcome A)
+      → GoesAlike c V macros s m new → GoesAlike c V macros s (left_to behind m) (left_to behind new)
+  alike-left V macros s behind (Err found) new h = tt
+  alike-left V macros s behind (Ok d) new h = λ reach kept told.
+      let f = h reach kept told in
+      record {
+        value = f.value;
+        macros = f.macros;
+        is = ap (left_to behind) f.is;
+        goes_with = f.goes_with;
+        kept = record { macros = f.kept.macros; bodies = f.kept.bodies; names = f.kept.names };
+      }
+
   -- what happened before
   pub alike-noted : {A : Type 0} (V : A → A → Type 0) (macros : Macros) (s : State) (notes : List Note) (m new : Outcome A)
       → GoesAlike c V macros s m new → GoesAlike c V macros s (noted notes m) (noted (map (renamed_happening c.renaming) notes) new)

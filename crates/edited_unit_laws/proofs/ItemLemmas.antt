@@ -8,7 +8,7 @@ use Rattle.cs_base.specs.declared.causes.Cause.{Cause}
 use Rattle.cs_base.specs.declared.positions.Pos.{Pos}
 use Rattle.cs_base.specs.Token.{Token}
 use Rattle.line_shape.specs.declared.items.ItemKind.{ItemKind}
-use Rattle.line_shape.specs.declared.items.ItemKind.TheVariants.{Run, Define, Undef, If, Ifdef, Ifndef, Elif, Else, Endif, Include, Line, Error, Pragma, Empty, Bad}
+use Rattle.line_shape.specs.declared.items.ItemKind.TheVariants.{Run, Define, Undef, If, Ifdef, Ifndef, Elif, Else, Endif, Include, Line, Error, Pragma, Empty, Gnu, Bad}
 use Rattle.line_shape.specs.Signs.{is_name, is_hash}
 use Rattle.line_shape.specs.Directives.{directive_named, directive_spelled, directives, meaning_in, is_run, is_define}
 use Rattle.line_shape.specs.BadLines.{cause_on}
@@ -75,6 +75,7 @@ kind-stays r Line good = refl
 kind-stays r Error good = refl
 kind-stays r Pragma good = refl
 kind-stays r Empty good = refl
+kind-stays r (Gnu line) good = refl
 kind-stays r (Bad cause at nests) good = absurd cc
 
 -- the words of directives name kinds without positions
@@ -96,7 +97,7 @@ meaning-good (row ∷ rows) text kind good is =
 directive-good : (text : List ℕ) (kind : ItemKind) → directive_spelled text ≡ Some kind → is_bad kind ≡ false
 unfolding directive_spelled
 directive-good text kind is =
-    meaning-good directives text kind (refl, (refl, (refl, (refl, (refl, (refl, (refl, (refl, (refl, (refl, (refl, (refl, tt)))))))))))) is
+    meaning-good directives text kind (refl, (refl, (refl, (refl, (refl, (refl, (refl, (refl, (refl, (refl, (refl, (refl, (refl, (refl, (refl, (refl, (refl, (refl, tt)))))))))))))))))) is
 
 named-good : (t : Token) (kind : ItemKind) → directive_named t ≡ Some kind → is_bad kind ≡ false
 named-good t kind is =
@@ -159,6 +160,7 @@ run-renamed r Line = refl
 run-renamed r Error = refl
 run-renamed r Pragma = refl
 run-renamed r Empty = refl
+run-renamed r (Gnu line) = refl
 run-renamed r (Bad cause at nests) = refl
 
 onto_pieces-renamed : (r : Renaming) (p : Piece) (ps : List Piece)

@@ -8,9 +8,11 @@ pub mod RespelledLemmas
 pub mod FoundLemmas
 pub mod WorkspaceLemmas
 pub mod AnalysesLemmas
+pub mod EditionLemmas
 pub mod LinksLemmas
 pub mod FileTokensLemmas
 pub mod AloneLemmas
+pub mod StandingLemmas
 -- What the proofs of this crate rest on.
 mod ValueLemmas
 mod BadLinesLemmas

@@ -4,18 +4,23 @@ use Rattle.std.proofs.lemmas.Bool.{cases_Bool}
 use Rattle.std.proofs.lemmas.List.{drop-drop}
 use Rattle.std.proofs.Math.Seq.{take-append_seam, drop-append_seam}
 use Rattle.cs_base.specs.declared.causes.Cause.{Cause}
+use Rattle.cs_base.specs.declared.causes.Cause.TheVariants.{UnknownDirective}
 use Rattle.cs_base.specs.declared.positions.Pos.{Pos}
 use Rattle.cs_base.specs.Token.{Token}
 use Rattle.line_shape.specs.declared.items.Item.{Item}
 use Rattle.line_shape.specs.declared.items.ItemKind.{ItemKind}
-use Rattle.line_shape.specs.declared.items.ItemKind.TheVariants.{Run, Bad}
+use Rattle.line_shape.specs.declared.items.ItemKind.TheVariants.{Run, Bad, Pragma, Gnu}
+use Rattle.line_shape.specs.declared.items.GnuLine.TheVariants.{IncludeNext}
 use Rattle.line_shape.specs.Signs.{is_name, is_hash}
 use Rattle.line_shape.specs.Directives.{directive_named, takes_name, is_run, nests_when_bad}
 use Rattle.line_shape.specs.BadLines.{cause_on}
 use Rattle.line_shape.specs.Items.{onto_lines, lines_of, line_kind, named_kind, kind_unless, directive_kind, Piece, piece, onto_pieces, pieces_of, item_of, items_from, items_of}
 use Rattle.macro_expand.proofs.CallLemmas.{cond_has}
 use Rattle.include_tree.specs.Walk.{ItemText, item_text, item_texts}
-use Rattle.edited_unit_laws.specs.Lines.{Each, KeepsLine}
+use Rattle.macro_expand.specs.Renaming.{renamed}
+use Rattle.source_files.specs.HeaderNames.{header_at, begins_header}
+use Rattle.unit_steps.specs.Directives.{says_once}
+use Rattle.edited_unit_laws.specs.Lines.{Each, KeepsLine, asks_next, begins_pragma}
 use Rattle.edited_unit_laws.specs.Keeping.{Change, Fits}
 use Rattle.edited_unit_laws.proofs.FollowLemmas.{each-both}
 
@@ -145,4 +150,46 @@ unfolding directive_kind
 takes-name k hash word name operands takes is = elim (cases_Bool (is_hash hash)) [
   | inl hashed ↦ operand-named k hash.at hash word name (directive_named word) operands takes hashed refl (rw hashed at is)
   | inr other ↦ let run : Run ≡ k = rw other at is in let bad = ap takes_name run ∙ takes in absurd (cc)
+]
+
+-- ---- the header of a line that asks for the next file of its name
+
+-- a kind that no bad line has is that of the word
+abbrev IsGood : ItemKind → Type 0
+IsGood k = (cause : Cause) (at : Pos) (nests : Bool) → Bad cause at nests ≡ k → ⊥
+
+unless-good : (k kind : ItemKind) (at : Pos) (o : Option Cause) → IsGood k → kind_unless o at kind ≡ k → kind ≡ k
+unless-good k kind at None good is = is
+unless-good k kind at (Some cause) good is = absurd (good cause at (nests_when_bad kind) is)
+
+named-good : (k : ItemKind) (o : Option ItemKind) (at : Pos) (operands : List Token) → IsGood k → named_kind o at operands ≡ k → o ≡ Some k
+named-good k None at operands good is = absurd (good UnknownDirective at false is)
+named-good k (Some kind) at operands good is = ap (λ (z : ItemKind). Some z) (unless-good k kind at (cause_on kind operands) good is)
+
+pub next-kept : (c : Change) (toks : List Token) → line_kind toks ≡ Gnu IncludeNext → KeepsLine c.renaming toks
+    → begins_header (drop 2 toks) ≡ true → header_at (map (renamed c.renaming) (drop 2 toks)) ≡ header_at (drop 2 toks)
+unfolding directive_kind
+next-kept c [] is keeps begins = refl
+next-kept c (hash ∷ []) is keeps begins = refl
+next-kept c (hash ∷ word ∷ operands) is keeps begins = elim (cases_Bool (is_hash hash)) [
+  | inl hashed ↦
+      let named : directive_named word ≡ Some (Gnu IncludeNext) = named-good (Gnu IncludeNext) (directive_named word) hash.at operands (λ cause at nests e. cc) (rw hashed at is) in
+      let asks : asks_next word ≡ true = rw named refl in
+      (keeps hashed).2 asks begins
+  | inr other ↦ let run : Run ≡ Gnu IncludeNext = rw other at is in absurd (cc)
+]
+
+-- ---- whether a pragma says that its file is read once
+
+pub pragma-kept : (c : Change) (toks : List Token) → line_kind toks ≡ Pragma → KeepsLine c.renaming toks
+    → says_once (map (renamed c.renaming) toks) ≡ says_once toks
+unfolding directive_kind
+pragma-kept c [] is keeps = refl
+pragma-kept c (hash ∷ []) is keeps = refl
+pragma-kept c (hash ∷ word ∷ operands) is keeps = elim (cases_Bool (is_hash hash)) [
+  | inl hashed ↦
+      let named : directive_named word ≡ Some Pragma = named-good Pragma (directive_named word) hash.at operands (λ cause at nests e. cc) (rw hashed at is) in
+      let begins : begins_pragma word ≡ true = rw named refl in
+      (keeps hashed).3 begins
+  | inr other ↦ let run : Run ≡ Pragma = rw other at is in absurd (cc)
 ]

@@ -8,14 +8,14 @@ use Rattle.cs_base.specs.declared.tokens.Kind.{Kind}
 use Rattle.cs_base.specs.declared.tokens.Kind.TheVariants.{Ident, Number, Char, Str, Punct, Other, Header}
 use Rattle.cs_base.specs.Token.{Token}
 use Rattle.line_shape.specs.Signs.{is_punctuator, is_name, is_sign, is_hash, is_paste, is_open, is_close, is_comma, is_ellipsis}
-use Rattle.line_shape.specs.MacroLine.{MacroParts, macro, spellings, is_function_like, before_close, behind_close, is_parameter, is_identifier_list, params_in, are_distinct, is_parameter_list, function_macro, macro_of}
+use Rattle.line_shape.specs.MacroLine.{MacroParts, macro, spellings, is_function_like, before_close, behind_close, is_parameter, is_end, is_identifier_list, ends_in_rest, has_named_rest, has_plain_rest, params_in, are_distinct, is_parameter_list, function_macro, macro_of}
 use Rattle.macro_expand.specs.Renaming.{Renaming, spelled, renamed, renamed_macro}
 use Rattle.macro_body.specs.Defining.{definition_of}
 use Rattle.edited_unit_laws.specs.Lines.{Each, is_fixed, KeepsToken, NamesAsBefore, KeepsParameters, DefinitionsAreRenamed}
 
 -- the parts of a definition, renamed
 abbrev pub renamed_parts : Renaming → MacroParts → MacroParts
-renamed_parts r m = macro m.function (map (renamed r) m.params) m.variadic (map (renamed r) m.body)
+renamed_parts r m = macro m.function (map (renamed r) m.params) m.variadic m.named (map (renamed r) m.body)
 
 -- ---- signs
 
@@ -124,11 +124,15 @@ all-params P ts all = each-filter P is_name (before_close ts) (all-before P ts a
 parameter-kept : (r : Renaming) (t : Token) → KeepsToken r t → is_parameter (renamed r t) ≡ is_parameter t
 parameter-kept r t kept = rw kept.rest refl
 
+end-kept : (r : Renaming) (ts : List Token) → is_end (map (renamed r) ts) ≡ is_end ts
+end-kept r [] = refl
+end-kept r (t ∷ ts) = refl
+
 list-kept : (r : Renaming) (ts : List Token) → Each (KeepsToken r) ts → is_identifier_list (map (renamed r) ts) ≡ is_identifier_list ts
 list-kept r [] all = refl
 list-kept r (t ∷ []) all = rw (parameter-kept r t all.0, ellipsis-kept r t all.0) refl
 list-kept r (t ∷ comma ∷ ts) all =
-    rw (parameter-kept r t all.0, comma-kept r comma all.1.0, list-kept r ts all.1.1) refl
+    rw (parameter-kept r t all.0, comma-kept r comma all.1.0, list-kept r ts all.1.1, ellipsis-kept r comma all.1.0, end-kept r ts) refl
 
 -- a spelling among those of parameters
 pub among-kept : (r : Renaming) (t : Token) (ps : List Token) → is_name t ≡ true → Each (λ p. NamesAsBefore r p t) ps
@@ -169,6 +173,11 @@ parameter_list-kept r (t ∷ ts) kept same =
 ellipses-kept : (r : Renaming) (list : List Token) → Each (KeepsToken r) list → list_any is_ellipsis (map (renamed r) list) ≡ list_any is_ellipsis list
 ellipses-kept r list kept = any-kept r is_ellipsis list (all-weaker (KeepsToken r) (λ t. is_ellipsis (renamed r t) ≡ is_ellipsis t) list (ellipsis-kept r) kept)
 
+rest-kept : (r : Renaming) (behind : Bool) (ts : List Token) → Each (KeepsToken r) ts → ends_in_rest behind (map (renamed r) ts) ≡ ends_in_rest behind ts
+rest-kept r behind [] all = refl
+rest-kept r behind (t ∷ []) all = ap (λ b. b && behind) (ellipsis-kept r t all.0)
+rest-kept r behind (t ∷ u ∷ ts) all = rest-kept r (is_name t) (u ∷ ts) all.1
+
 some-cond : (r : Renaming) (b : Bool) (m : MacroParts)
     → cond b (Some (renamed_parts r m)) None ≡ option_map (renamed_parts r) (cond b (Some m) None)
 some-cond r true m = refl
@@ -179,8 +188,8 @@ function-renamed : (r : Renaming) (list : List Token) (body : Option (List Token
     → function_macro (map (renamed r) list) (option_map (map (renamed r)) body) ≡ option_map (renamed_parts r) (function_macro list body)
 function-renamed r list None kept same = refl
 function-renamed r list (Some body) kept same =
-    rw (parameter_list-kept r list kept same, names-renamed r list, ellipses-kept r list kept)
-    (some-cond r (is_parameter_list list) (macro true (params_in list) (list_any is_ellipsis list) body))
+    rw (parameter_list-kept r list kept same, names-renamed r list, ellipses-kept r list kept, rest-kept r false list kept)
+    (some-cond r (is_parameter_list list) (macro true (params_in list) (has_plain_rest list) (has_named_rest list) body))
 
 function_like-kept : (r : Renaming) (toks : List Token) → Each (KeepsToken r) toks → is_function_like (map (renamed r) toks) ≡ is_function_like toks
 function_like-kept r [] kept = refl

@@ -145,12 +145,13 @@ searched-grows : (old : Source) (unit : UnitValue) (earlier : ℕ) (file : Sourc
 searched-grows old unit earlier file at s found None = tt
 searched-grows old unit earlier file at s found (Some path) = open-grows old unit earlier (place_in file at) path (record s { table = found.table })
 
-pub header-grows : (old : Source) (unit : UnitValue) (earlier : ℕ) (file : SourceFile) (at : Pos) (h : Header) (s : State)
-    → Grows s (open_header (unit_context old unit earlier) file at h s)
-header-grows old unit earlier file at h s =
-    let found : Searched = search old (candidates_of h file.path unit) s.table in
+pub header-grows : (old : Source) (unit : UnitValue) (earlier : ℕ) (file : SourceFile) (at : Pos) (next : Bool) (h : Header) (s : State)
+    → Grows s (open_header (unit_context old unit earlier) file at next h s)
+header-grows old unit earlier file at next h s =
+    let paths = candidates_of next h s.behind file.path unit in
+    let found : Searched = search old paths s.table in
     later-grows s (record s { table = found.table }) (open_searched (unit_context old unit earlier) file at s found found.path)
-    (search_wide old (candidates_of h file.path unit) s.table).grown (searched-grows old unit earlier file at s found found.path)
+    (search_wide old paths s.table).grown (searched-grows old unit earlier file at s found found.path)
 
 module _ (c : Change) (source : Source) (files : KeepsFiles c source) where
   -- the edited file that is kept under a number has the text that is kept
@@ -272,15 +273,16 @@ module _ (c : Change) (source : Source) (files : KeepsFiles c source) where
       (open_file (unit_context source unit earlier) (place_in (with_text file text) at2) path (moved c macros (record s { table = found.table })))
       (open-alike old source unit earlier (place_in file at) (place_in (with_text file text) at2) path macros (record s { table = found.table }))
 
-  pub header-alike : (old : Source) (unit : UnitValue) (earlier : ℕ) (file : SourceFile) (text : TextValue) (at at2 : Pos) (h : Header) (macros : Macros) (s : State)
-      → GoesAlike c (OpensAlike c) macros s (open_header (unit_context old unit earlier) file at h s)
-      (open_header (unit_context source unit earlier) (with_text file text) at2 h (moved c macros s))
-  header-alike old unit earlier file text at at2 h macros s =
-      let found : Searched = search old (candidates_of h file.path unit) s.table in
+  pub header-alike : (old : Source) (unit : UnitValue) (earlier : ℕ) (file : SourceFile) (text : TextValue) (at at2 : Pos) (next : Bool) (h : Header) (macros : Macros) (s : State)
+      → GoesAlike c (OpensAlike c) macros s (open_header (unit_context old unit earlier) file at next h s)
+      (open_header (unit_context source unit earlier) (with_text file text) at2 next h (moved c macros s))
+  header-alike old unit earlier file text at at2 next h macros s =
+      let paths = candidates_of next h s.behind file.path unit in
+      let found : Searched = search old paths s.table in
       alike-reach c (OpensAlike c) macros s found.table (open_searched (unit_context old unit earlier) file at s found found.path)
-      (open_header (unit_context source unit earlier) (with_text file text) at2 h (moved c macros s))
+      (open_header (unit_context source unit earlier) (with_text file text) at2 next h (moved c macros s))
       (searched-grows old unit earlier file at s found found.path)
       (λ reach.
       subst (λ (d : Searched). GoesAlike c (OpensAlike c) macros s (open_searched (unit_context old unit earlier) file at s found found.path) (open_searched (unit_context source unit earlier) (with_text file text) at2 (moved c macros s) d d.path))
-      (sym (search-edited old source c.editing (candidates_of h file.path unit) s.table c.files reach files.found))
+      (sym (search-edited old source c.editing paths s.table c.files reach files.found))
       (searched-alike old unit earlier file text at at2 macros s found found.path))

@@ -1,6 +1,6 @@
 -- The parts of a macro's definition: what is kept of its parameters and of its replacement list.
 use Rattle.std.proofs.Common.{◌≡◌, ℕ, zero, suc, ◌&&◌, Bool, true, false, cond, List, [], ◌∷◌, ◌++◌, map, drop, Option, Some, None, refl, ap, sym, subst, ◌∙◌, inl, inr}
-use Rattle.std.specs.List.{flat_map, list_any, position, position_or_len}
+use Rattle.std.specs.List.{flat_map, position, position_or_len}
 use Rattle.std.specs.Str.{bytes_eq}
 use Rattle.std.proofs.lemmas.Bool.{cases_Bool}
 use Rattle.std.proofs.lemmas.Bool.Decides.{same_from_decides}
@@ -8,8 +8,8 @@ use Rattle.std.proofs.lemmas.List.{map-append, length-map}
 use Rattle.std.proofs.lemmas.Option.{none-some, same_Some}
 use Rattle.std.proofs.lemmas.Slice.Eq.{bytes_eq-Decides}
 use Rattle.cs_base.specs.Token.{Token}
-use Rattle.line_shape.specs.Signs.{is_name, is_identifier, is_va_args, is_ellipsis, is_close}
-use Rattle.line_shape.specs.MacroLine.{MacroParts, macro, is_function_like, before_close, behind_close, is_parameter_list, params_in, function_macro, macro_of}
+use Rattle.line_shape.specs.Signs.{is_name, is_identifier, is_va_args, is_close}
+use Rattle.line_shape.specs.MacroLine.{MacroParts, macro, is_function_like, before_close, behind_close, is_parameter_list, has_named_rest, has_plain_rest, params_in, function_macro, macro_of}
 use Rattle.macro_body.specs.declared.definitions.Definition.{Definition}
 use Rattle.macro_body.specs.Macro.{rest_name, named_or_rest, parameter_at}
 use Rattle.macro_expand.specs.Renaming.{Renaming, spelled, renamed, renamed_macro, KeepsBody}
@@ -59,7 +59,7 @@ function-goes : (c : Change) (list : List Token) (o : Option (List Token)) (m : 
     → function_macro list o ≡ Some m → PartsGo c m.params m.body
 function-goes c list None m h e = absurd (none-some m e)
 function-goes c list (Some body) m h e =
-    subst (λ (x : MacroParts). PartsGo c x.params x.body) (cond-parts (is_parameter_list list) (macro true (params_in list) (list_any is_ellipsis list) body) m e) (h body refl)
+    subst (λ (x : MacroParts). PartsGo c x.params x.body) (cond-parts (is_parameter_list list) (macro true (params_in list) (has_plain_rest list) (has_named_rest list) body) m e) (h body refl)
 
 pub macro-goes : (c : Change) (ts : List Token) (m : MacroParts) → Each (Fits c) ts → KeepsParameters c.renaming ts → macro_of ts ≡ Some m → PartsGo c m.params m.body
 unfolding macro_of
@@ -74,7 +74,7 @@ macro-goes c ts m h same e = elim (cases_Bool (is_function_like ts)) [
       })
       (rw function at e)
   | inr object ↦
-      subst (λ (x : MacroParts). PartsGo c x.params x.body) (same_Some (macro false [] false ts) m (rw object at e))
+      subst (λ (x : MacroParts). PartsGo c x.params x.body) (same_Some (macro false [] false false ts) m (rw object at e))
       (record { body = h; uses = no_params ts })
 ]
   where

@@ -1,5 +1,5 @@
 -- What callers see of a unit, renamed.
-use Rattle.std.proofs.Common.{◌≡◌, ℕ, ◌+◌, Bool, List, [], ◌∷◌, ◌++◌, length, map, Result, Ok, refl, ap, sym, ◌∙◌}
+use Rattle.std.proofs.Common.{◌≡◌, ℕ, ◌+◌, Bool, true, false, List, [], ◌∷◌, ◌++◌, length, map, Result, Ok, refl, ap, sym, ◌∙◌}
 use Rattle.std.specs.List.{flat_map}
 use Rattle.std.proofs.lemmas.List.{map-append, length-map}
 use Rattle.cs_base.specs.Token.{Token}
@@ -10,7 +10,7 @@ use Rattle.unit_steps.specs.declared.events.EventKind.TheVariants as kind
 use Rattle.unit_steps.specs.declared.events.Reached.{Reached}
 use Rattle.source_files.specs.Faults.{Fault}
 use Rattle.source_files.specs.Files.{carried}
-use Rattle.unit_steps.specs.Notes.{Note, Reaches, Happened, Defined, Undefined, Tested, Left, Linked, Answered, Named, Entered, Exited, links_then, pasted_then, stringized_then, events_then, links_of, pasted_of, stringized_of, header_of, answers_of, events_of, reached_of, named_event, before_in}
+use Rattle.unit_steps.specs.Notes.{Note, Reaches, Happened, Defined, Undefined, Tested, Left, Linked, Answered, Named, Entered, Exited, ReadOnce, links_then, pasted_then, stringized_then, events_then, links_of, pasted_of, stringized_of, header_of, answers_of, events_of, reached_of, named_event, before_in}
 use Rattle.unit_steps.specs.Texts.{UnitTextValue, reached_in, unit_text}
 use Rattle.include_tree.specs.Preprocessed.{Preprocessed, preprocessed_by, preprocessed}
 use Rattle.edited_unit_laws.specs.Lines.{Each}
@@ -52,6 +52,7 @@ links-renamed r (Answered t) = refl
 links-renamed r (Named toks) = refl
 links-renamed r (Entered at file before) = refl
 links-renamed r (Exited at file before) = refl
+links-renamed r (ReadOnce passed at file before) = refl
 
 pasted-renamed : (r : Renaming) (n : Note) → pasted_of (renamed_happening r n) ≡ map (renamed r) (pasted_of n)
 pasted-renamed r (Reaches file item evaluated before) = refl
@@ -65,6 +66,7 @@ pasted-renamed r (Answered t) = refl
 pasted-renamed r (Named toks) = refl
 pasted-renamed r (Entered at file before) = refl
 pasted-renamed r (Exited at file before) = refl
+pasted-renamed r (ReadOnce passed at file before) = refl
 
 stringized-renamed : (r : Renaming) (n : Note) → stringized_of (renamed_happening r n) ≡ map (renamed r) (stringized_of n)
 stringized-renamed r (Reaches file item evaluated before) = refl
@@ -78,6 +80,7 @@ stringized-renamed r (Answered t) = refl
 stringized-renamed r (Named toks) = refl
 stringized-renamed r (Entered at file before) = refl
 stringized-renamed r (Exited at file before) = refl
+stringized-renamed r (ReadOnce passed at file before) = refl
 
 header-renamed : (r : Renaming) (n : Note) → header_of (renamed_happening r n) ≡ map (renamed r) (header_of n)
 header-renamed r (Reaches file item evaluated before) = refl
@@ -91,6 +94,7 @@ header-renamed r (Answered t) = refl
 header-renamed r (Named toks) = refl
 header-renamed r (Entered at file before) = refl
 header-renamed r (Exited at file before) = refl
+header-renamed r (ReadOnce passed at file before) = refl
 
 answers-renamed : (r : Renaming) (n : Note) → answers_of (renamed_happening r n) ≡ map (renamed r) (answers_of n)
 answers-renamed r (Reaches file item evaluated before) = refl
@@ -104,6 +108,7 @@ answers-renamed r (Answered t) = refl
 answers-renamed r (Named toks) = refl
 answers-renamed r (Entered at file before) = refl
 answers-renamed r (Exited at file before) = refl
+answers-renamed r (ReadOnce passed at file before) = refl
 
 event-renamed : (c : Change) (run : Bool) (before : ℕ) (n : expansion.Note) → MovesMacro c (Happened run before n)
     → events_then run before (renamed_note c.renaming n) ≡ map (renamed_event c.renaming) (events_then run before n)
@@ -125,6 +130,8 @@ events-renamed c (Answered t) h = refl
 events-renamed c (Named toks) h = refl
 events-renamed c (Entered at file before) h = refl
 events-renamed c (Exited at file before) h = refl
+events-renamed c (ReadOnce true at file before) h = refl
+events-renamed c (ReadOnce false at file before) h = refl
 
 -- the same item is reached
 reached-same : (r : Renaming) (events : ℕ) (n : Note) → reached_of events (renamed_happening r n) ≡ reached_of events n
@@ -139,6 +146,8 @@ reached-same r events (Answered t) = refl
 reached-same r events (Named toks) = refl
 reached-same r events (Entered at file before) = refl
 reached-same r events (Exited at file before) = refl
+reached-same r events (ReadOnce true at file before) = refl
+reached-same r events (ReadOnce false at file before) = refl
 
 -- ---- all notes
 

@@ -6,7 +6,7 @@ use Rattle.edited_unit_laws.proofs.IncludeLemmas.{include-alike}
 use Rattle.edited_unit_laws.proofs.WalkLemmas.{files-alike}
 
 pub definitions_go_alike : DefinitionsGoAlike
-definitions_go_alike = λ c names file new at at2 toks macros s h is keeps. define-alike c names file new at at2 toks macros s h is keeps
+definitions_go_alike = λ c names gnu file new at at2 toks macros s h is keeps. define-alike c names gnu file new at at2 toks macros s h is keeps
 
 pub undefinitions_go_alike : UndefinitionsGoAlike
 undefinitions_go_alike = λ c names file new at at2 toks macros s h is. undef-alike c names file new at at2 toks macros s h is

@@ -42,7 +42,7 @@ use Rattle.analysis.specs.Changed.{edited_table}
 
 -- a first macro with another name
 abbrev macro_with : Form → List ℕ → List (Option Pos) → Pos → Definition
-macro_with form text origins at = record { name = token Other text origins false at 0 false; form = form; params = []; variadic = false; body = [] }
+macro_with form text origins at = record { name = token Other text origins false at 0 false; form = form; params = []; variadic = false; named = false; body = []; gnu = false }
 
 macro-still : (c : Change) → KeepsNames c → (form : Form) (text : List ℕ) → list_all is_none (padded (length text) []) ≡ true
     → renamed_macro c.renaming (first_definition form text) ≡ first_definition form text

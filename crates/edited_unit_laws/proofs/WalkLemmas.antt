@@ -1,26 +1,28 @@
 -- The items of files, in their sections, over the edited files (ISO/IEC 9899:1999, 6.10, 6.10.1).
-use Rattle.std.proofs.Common.{◌≡◌, ℕ, zero, suc, ◌+◌, Bool, true, false, not, List, [], ◌∷◌, ◌++◌, map, drop, Some, None, Ok, Err, refl, ap, sym, subst, ◌∙◌}
+use Rattle.std.proofs.Common.{◌≡◌, ℕ, zero, suc, ◌+◌, Bool, true, false, not, ◌&&◌, List, [], ◌∷◌, ◌++◌, map, drop, Some, None, Ok, Err, refl, ap, sym, subst, ◌∙◌}
 use Rattle.std.proofs.lemmas.List.{map-append, drop-map}
 use Rattle.cs_base.specs.declared.causes.Cause.TheVariants as cause
 use Rattle.cs_base.specs.declared.positions.Pos.{Pos}
 use Rattle.cs_base.specs.Token.{Token}
-use Rattle.cs_base.specs.Units.{UnitValue}
+use Rattle.cs_base.specs.Units.{UnitValue, is_gnu}
+use Rattle.cs_base.specs.declared.ws_units.Standard.{Standard}
 use Rattle.lexer.specs.FileText.{TextValue}
 use Rattle.line_shape.specs.declared.items.ItemKind.{ItemKind}
 use Rattle.line_shape.specs.declared.items.ItemKind.TheVariants as kind
+use Rattle.line_shape.specs.declared.items.GnuLine.TheVariants as gnu
 use Rattle.macro_body.specs.Macro.{Table as Macros}
 use Rattle.macro_expand.specs.Renaming.{renamed}
 use Rattle.source_files.specs.Faults.{fault_at}
 use Rattle.source_files.specs.Files.{Source, SourceFile}
 use Rattle.include_tree.specs.Laws.{IfDone}
-use Rattle.unit_steps.specs.Notes.{Reaches}
-use Rattle.unit_steps.specs.State.{Context, State, Outcome, only, onward}
+use Rattle.unit_steps.specs.Notes.{Reaches, ReadOnce}
+use Rattle.unit_steps.specs.State.{Context, State, did, Outcome, only, onward}
 use Rattle.include_tree.specs.GivenFiles.{unit_context}
 use Rattle.include_tree.specs.Including.{Inner}
 use Rattle.include_tree.specs.Sections.{Group, Processed, Awaited, Over, Skipped, Section, section, are_processed, group_if, group_after, group_of_else, Turn, Opens, GoesOn, GoesLast, Ends, Stays, turn_of}
 use Rattle.unit_steps.specs.Conditions.{holds}
-use Rattle.unit_steps.specs.Directives.{opens_with, is_if}
-use Rattle.include_tree.specs.Walk.{ItemText, item_texts, items_in, processed, Stepped, stepped, reaching, reaching_alive, go_on, opens, goes_on, in_section, turned, item_step, file_end, walk, file_items}
+use Rattle.unit_steps.specs.Directives.{opens_with, goes_with, is_if, says_once, with_once, said_once, pragma_of}
+use Rattle.include_tree.specs.Walk.{ItemText, item_texts, items_in, processed, Stepped, stepped, reaching, reaching_alive, go_on, opens, goes_on, in_section, turned, is_foreign, foreign_line, item_step, file_end, walk, file_items}
 use Rattle.include_tree.proofs.StepLemmas.{PutsOut}
 use Rattle.source_files.proofs.TableLemmas.{grown_refl}
 use Rattle.include_tree.proofs.WalkLemmas.{InnerLeads, walk_leads, files_lead}
@@ -32,9 +34,9 @@ use Rattle.edited_unit_laws.specs.Renamed.{renamed_section, renamed_stepped}
 use Rattle.edited_unit_laws.specs.Steps.{moved, GoesAlike, IsPutOutRenamed, IsSame, IsStepped, with_text, ProcessAlike, InnerAlike, Grows, InnerGrows}
 use Rattle.edited_unit_laws.proofs.ConditionLemmas.{holds-alike}
 use Rattle.edited_unit_laws.proofs.DirectiveLemmas.{define-alike, undef-alike, asks-alike, kept-tokens}
-use Rattle.edited_unit_laws.proofs.FollowLemmas.{onward-grows, alike-noted, alike-onward, alike-only, alike-cond, alike-test}
-use Rattle.edited_unit_laws.proofs.IncludeLemmas.{include-alike}
-use Rattle.edited_unit_laws.proofs.LineLemmas.{LineGoes, ItemGoes, file-items-go}
+use Rattle.edited_unit_laws.proofs.FollowLemmas.{onward-grows, alike-noted, alike-onward, alike-only, alike-did, alike-cond, alike-test}
+use Rattle.edited_unit_laws.proofs.IncludeLemmas.{include-alike, include-next-alike}
+use Rattle.edited_unit_laws.proofs.LineLemmas.{LineGoes, ItemGoes, file-items-go, next-kept, pragma-kept}
 use Rattle.edited_unit_laws.proofs.PartLemmas.{each-drop}
 use Rattle.edited_unit_laws.proofs.TextLemmas.{run-alike}
 
@@ -56,6 +58,7 @@ turn-same c kind.Error = refl
 turn-same c kind.Pragma = refl
 turn-same c kind.Empty = refl
 turn-same c (kind.Bad cause at nests) = refl
+turn-same c (kind.Gnu line) = refl
 
 if-same : (c : Change) (k : ItemKind) → is_if (renamed_kind c.renaming k) ≡ is_if k
 if-same c kind.Run = refl
@@ -73,6 +76,25 @@ if-same c kind.Error = refl
 if-same c kind.Pragma = refl
 if-same c kind.Empty = refl
 if-same c (kind.Bad cause at nests) = refl
+if-same c (kind.Gnu line) = refl
+
+foreign-same : (c : Change) (standard : Standard) (k : ItemKind) → is_foreign standard (renamed_kind c.renaming k) ≡ is_foreign standard k
+foreign-same c standard (kind.Bad cause at nests) = refl
+foreign-same c standard (kind.Gnu line) = refl
+foreign-same c standard kind.Run = refl
+foreign-same c standard kind.Define = refl
+foreign-same c standard kind.Undef = refl
+foreign-same c standard kind.If = refl
+foreign-same c standard kind.Ifdef = refl
+foreign-same c standard kind.Ifndef = refl
+foreign-same c standard kind.Elif = refl
+foreign-same c standard kind.Else = refl
+foreign-same c standard kind.Endif = refl
+foreign-same c standard kind.Include = refl
+foreign-same c standard kind.Line = refl
+foreign-same c standard kind.Error = refl
+foreign-same c standard kind.Pragma = refl
+foreign-same c standard kind.Empty = refl
 
 processed-same : (c : Change) (sections : List Section) → are_processed (map (renamed_section c.renaming) sections) ≡ are_processed sections
 processed-same c [] = refl
@@ -100,6 +122,14 @@ module _ (c : Change) (names : KeepsNames c) (source : Source) (files : KeepsFil
   nothing-alike : (macros : Macros) (s : State) → GoesAlike c (IsPutOutRenamed c) macros s (only [] s) (only [] (moved c macros s))
   nothing-alike macros s = alike-only c (IsPutOutRenamed c) macros s [] [] refl
 
+  pragma-alike : (gnu_ : Bool) (file : SourceFile) (text : TextValue) (at : Pos) (toks : List Token) (macros : Macros) (s : State) → says_once (map (renamed c.renaming) toks) ≡ says_once toks
+      → GoesAlike c (IsPutOutRenamed c) macros s (pragma_of gnu_ file at toks s) (pragma_of gnu_ (with_text file text) (c.renaming.move at) (map (renamed c.renaming) toks) (moved c macros s))
+  pragma-alike gnu_ file text at toks macros s same =
+      rw same (alike-cond c (IsPutOutRenamed c) macros s (gnu_ && says_once toks) (said_once file at s) (only [] s) (said_once (with_text file text) (c.renaming.move at) (moved c macros s)) (only [] (moved c macros s))
+      (alike-did c (IsPutOutRenamed c) macros macros s (with_once file.number s) [] [] (ReadOnce false at file.number s.before ∷ []) refl
+      (λ kept told. record { macros = kept.macros; bodies = kept.bodies; names = kept.names }))
+      (nothing-alike macros s))
+
   processed-alike : (inner inner2 : Inner) → InnerGrows inner → InnerAlike c inner inner2 → (file : SourceFile) (text : TextValue) (k : ItemKind) (at : Pos) (toks : List Token) (macros : Macros) (s : State)
       → LineGoes c k toks
       → GoesAlike c (IsPutOutRenamed c) macros s (processed ctx inner file k at toks s)
@@ -107,13 +137,19 @@ module _ (c : Change) (names : KeepsNames c) (source : Source) (files : KeepsFil
   processed-alike inner inner2 grows alike file text kind.Run at toks macros s h = run-alike c names ctx ctx2 file text toks macros s refl h.toks
   processed-alike inner inner2 grows alike file text kind.Define at toks macros s h =
       let line = h.line refl in
-      define-alike c names file (with_text file text) at (c.renaming.move at) toks macros s h.toks line.0 line.1
+      define-alike c names (is_gnu unit.standard) file (with_text file text) at (c.renaming.move at) toks macros s h.toks line.0 line.1
   processed-alike inner inner2 grows alike file text kind.Undef at toks macros s h =
       undef-alike c names file (with_text file text) at (c.renaming.move at) toks macros s h.toks (h.line refl).0
   processed-alike inner inner2 grows alike file text kind.Include at toks macros s h =
       include-alike c names source files old unit earlier inner inner2 grows alike file text at toks macros s h.toks
   processed-alike inner inner2 grows alike file text kind.Error at toks macros s h = tt
   processed-alike inner inner2 grows alike file text (kind.Bad cause place nests) at toks macros s h = tt
+  processed-alike inner inner2 grows alike file text (kind.Gnu gnu.IncludeNext) at toks macros s h =
+      let line = h.line refl in
+      include-next-alike c names source files old unit earlier inner inner2 grows alike file text at toks macros s h.toks (λ begins. next-kept c toks line.0 line.1 begins)
+  processed-alike inner inner2 grows alike file text (kind.Gnu gnu.Message) at toks macros s h = nothing-alike macros s
+  processed-alike inner inner2 grows alike file text (kind.Gnu gnu.Elifdef) at toks macros s h = nothing-alike macros s
+  processed-alike inner inner2 grows alike file text (kind.Gnu gnu.Elifndef) at toks macros s h = nothing-alike macros s
   processed-alike inner inner2 grows alike file text kind.If at toks macros s h = nothing-alike macros s
   processed-alike inner inner2 grows alike file text kind.Ifdef at toks macros s h = nothing-alike macros s
   processed-alike inner inner2 grows alike file text kind.Ifndef at toks macros s h = nothing-alike macros s
@@ -121,7 +157,9 @@ module _ (c : Change) (names : KeepsNames c) (source : Source) (files : KeepsFil
   processed-alike inner inner2 grows alike file text kind.Else at toks macros s h = nothing-alike macros s
   processed-alike inner inner2 grows alike file text kind.Endif at toks macros s h = nothing-alike macros s
   processed-alike inner inner2 grows alike file text kind.Line at toks macros s h = nothing-alike macros s
-  processed-alike inner inner2 grows alike file text kind.Pragma at toks macros s h = nothing-alike macros s
+  processed-alike inner inner2 grows alike file text kind.Pragma at toks macros s h =
+      let line = h.line refl in
+      pragma-alike (is_gnu unit.standard) file text at toks macros s (pragma-kept c toks line.0 line.1)
   processed-alike inner inner2 grows alike file text kind.Empty at toks macros s h = nothing-alike macros s
 
   -- ---- conditions that open sections
@@ -140,6 +178,7 @@ module _ (c : Change) (names : KeepsNames c) (source : Source) (files : KeepsFil
   opens_with-alike file text kind.Ifndef at toks macros s h =
       asks-alike c names kind.Ifndef file (with_text file text) at (c.renaming.move at) not toks macros s refl h.toks (h.line refl).0
   opens_with-alike file text (kind.Bad cause place nests) at toks macros s h = tt
+  opens_with-alike file text (kind.Gnu line) at toks macros s h = tt
   opens_with-alike file text kind.Run at toks macros s h = tt
   opens_with-alike file text kind.Define at toks macros s h = tt
   opens_with-alike file text kind.Undef at toks macros s h = tt
@@ -151,6 +190,31 @@ module _ (c : Change) (names : KeepsNames c) (source : Source) (files : KeepsFil
   opens_with-alike file text kind.Error at toks macros s h = tt
   opens_with-alike file text kind.Pragma at toks macros s h = tt
   opens_with-alike file text kind.Empty at toks macros s h = tt
+
+  goes_with-alike : (file : SourceFile) (text : TextValue) (k : ItemKind) (at : Pos) (toks : List Token) (macros : Macros) (s : State) → LineGoes c k toks
+      → GoesAlike c (IsSame {A = Bool}) macros s (goes_with k file at toks s)
+      (goes_with (renamed_kind c.renaming k) (with_text file text) (c.renaming.move at) (map (renamed c.renaming) toks) (moved c macros s))
+  goes_with-alike file text (kind.Gnu gnu.Elifdef) at toks macros s h =
+      asks-alike c names (kind.Gnu gnu.Elifdef) file (with_text file text) at (c.renaming.move at) (λ b. b) toks macros s refl h.toks (h.line refl).0
+  goes_with-alike file text (kind.Gnu gnu.Elifndef) at toks macros s h =
+      asks-alike c names (kind.Gnu gnu.Elifndef) file (with_text file text) at (c.renaming.move at) not toks macros s refl h.toks (h.line refl).0
+  goes_with-alike file text (kind.Gnu gnu.IncludeNext) at toks macros s h = tt
+  goes_with-alike file text (kind.Gnu gnu.Message) at toks macros s h = tt
+  goes_with-alike file text (kind.Bad cause place nests) at toks macros s h = holds-behind file text at toks macros s h.toks
+  goes_with-alike file text kind.Run at toks macros s h = holds-behind file text at toks macros s h.toks
+  goes_with-alike file text kind.Define at toks macros s h = holds-behind file text at toks macros s h.toks
+  goes_with-alike file text kind.Undef at toks macros s h = holds-behind file text at toks macros s h.toks
+  goes_with-alike file text kind.If at toks macros s h = holds-behind file text at toks macros s h.toks
+  goes_with-alike file text kind.Ifdef at toks macros s h = holds-behind file text at toks macros s h.toks
+  goes_with-alike file text kind.Ifndef at toks macros s h = holds-behind file text at toks macros s h.toks
+  goes_with-alike file text kind.Elif at toks macros s h = holds-behind file text at toks macros s h.toks
+  goes_with-alike file text kind.Else at toks macros s h = holds-behind file text at toks macros s h.toks
+  goes_with-alike file text kind.Endif at toks macros s h = holds-behind file text at toks macros s h.toks
+  goes_with-alike file text kind.Include at toks macros s h = holds-behind file text at toks macros s h.toks
+  goes_with-alike file text kind.Line at toks macros s h = holds-behind file text at toks macros s h.toks
+  goes_with-alike file text kind.Error at toks macros s h = holds-behind file text at toks macros s h.toks
+  goes_with-alike file text kind.Pragma at toks macros s h = holds-behind file text at toks macros s h.toks
+  goes_with-alike file text kind.Empty at toks macros s h = holds-behind file text at toks macros s h.toks
 
   -- ---- sections
 
@@ -191,11 +255,11 @@ module _ (c : Change) (names : KeepsNames c) (source : Source) (files : KeepsFil
       → GoesAlike c (IsStepped c) macros s (goes_on file k i open_ sections s g)
       (goes_on (with_text file text) k (renamed_item_text c.renaming i) (renamed_section c.renaming open_) (map (renamed_section c.renaming) sections) (moved c macros s) g)
   goes_on-alike file text k i open_ sections macros s Awaited h =
-      reaching-alike file text k true macros s (onward (holds file i.at (drop 2 i.toks) s) (λ b t. only (go_on open_ (group_if b) false sections) t))
-      (onward (holds (with_text file text) (c.renaming.move i.at) (drop 2 (map (renamed c.renaming) i.toks)) (moved c macros s)) (λ b t. only (go_on (renamed_section c.renaming open_) (group_if b) false (map (renamed_section c.renaming) sections)) t))
-      (then-stepped macros s (holds file i.at (drop 2 i.toks) s) (holds (with_text file text) (c.renaming.move i.at) (drop 2 (map (renamed c.renaming) i.toks)) (moved c macros s))
+      reaching-alike file text k true macros s (onward (goes_with i.kind file i.at i.toks s) (λ b t. only (go_on open_ (group_if b) false sections) t))
+      (onward (goes_with (renamed_kind c.renaming i.kind) (with_text file text) (c.renaming.move i.at) (map (renamed c.renaming) i.toks) (moved c macros s)) (λ b t. only (go_on (renamed_section c.renaming open_) (group_if b) false (map (renamed_section c.renaming) sections)) t))
+      (then-stepped macros s (goes_with i.kind file i.at i.toks s) (goes_with (renamed_kind c.renaming i.kind) (with_text file text) (c.renaming.move i.at) (map (renamed c.renaming) i.toks) (moved c macros s))
       (λ b. go_on open_ (group_if b) false sections) (λ b. go_on (renamed_section c.renaming open_) (group_if b) false (map (renamed_section c.renaming) sections)) (λ b. refl)
-      (holds-behind file text i.at i.toks macros s h.toks))
+      (goes_with-alike file text i.kind i.at i.toks macros s h))
   goes_on-alike file text k i open_ sections macros s Skipped h = only-stepped macros s (go_on open_ Skipped false sections)
   goes_on-alike file text k i open_ sections macros s Processed h =
       reaching-alike file text k false macros s (only (go_on open_ (group_after Processed) false sections) s) (only (renamed_stepped c.renaming (go_on open_ (group_after Processed) false sections)) (moved c macros s))
@@ -267,12 +331,26 @@ module _ (c : Change) (names : KeepsNames c) (source : Source) (files : KeepsFil
       (processed-alike inner inner2 grows alike file text i.kind i.at i.toks macros s h)))
       (only-stepped macros s (stepped [] sections)))
 
+  -- a line that GNU C alone has, in a unit of another standard
+  foreign-alike : (file : SourceFile) (text : TextValue) (i : ItemText) (sections : List Section) (macros : Macros) (s : State)
+      → GoesAlike c (IsStepped c) macros s (foreign_line file i sections s)
+      (foreign_line (with_text file text) (renamed_item_text c.renaming i) (map (renamed_section c.renaming) sections) (moved c macros s))
+  foreign-alike file text i sections macros s =
+      rw (processed-same c sections)
+      (alike-cond c (IsStepped c) macros s (are_processed sections) (Err (fault_at file i.at cause.BadDirective)) (only (stepped [] sections) s)
+      (Err (fault_at (with_text file text) (c.renaming.move i.at) cause.BadDirective)) (only (stepped [] (map (renamed_section c.renaming) sections)) (moved c macros s))
+      tt (only-stepped macros s (stepped [] sections)))
+
   step-alike : (inner inner2 : Inner) → InnerGrows inner → InnerAlike c inner inner2 → (file : SourceFile) (text : TextValue) (k : ℕ) (i : ItemText) (sections : List Section) (macros : Macros) (s : State)
       → ItemGoes c i
       → GoesAlike c (IsStepped c) macros s (item_step ctx inner file k i sections s)
       (item_step ctx2 inner2 (with_text file text) k (renamed_item_text c.renaming i) (map (renamed_section c.renaming) sections) (moved c macros s))
   step-alike inner inner2 grows alike file text k i sections macros s h =
-      rw (turn-same c i.kind) (turned-alike inner inner2 grows alike file text k i sections macros s (turn_of i.kind) h)
+      rw (foreign-same c unit.standard i.kind, turn-same c i.kind)
+      (alike-cond c (IsStepped c) macros s (is_foreign unit.standard i.kind) (foreign_line file i sections s) (turned ctx inner file k i sections s (turn_of i.kind))
+      (foreign_line (with_text file text) (renamed_item_text c.renaming i) (map (renamed_section c.renaming) sections) (moved c macros s))
+      (turned ctx2 inner2 (with_text file text) k (renamed_item_text c.renaming i) (map (renamed_section c.renaming) sections) (moved c macros s) (turn_of i.kind))
+      (foreign-alike file text i sections macros s) (turned-alike inner inner2 grows alike file text k i sections macros s (turn_of i.kind) h))
 
   -- ---- files
 

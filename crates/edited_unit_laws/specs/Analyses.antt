@@ -8,7 +8,7 @@ use Rattle.source_files.specs.Tables.{IsGrown}
 use Rattle.analysis.specs.Below.c99_read.Reading.{read_of}
 use Rattle.analysis.specs.Below.c99_grammar.Dialects.{dialect}
 use Rattle.analysis.specs.Below.c99_grammar.Standard.{grammar}
-use Rattle.analysis.specs.Below.scope_bind.Bound.{binding_of}
+use Rattle.analysis.specs.Below.gnu_bind.Bound.{binding_by}
 use Rattle.analysis.specs.Texts.{texts_and, texts_from}
 use Rattle.analysis.specs.Analysis.{UnitAnalysis, UnitsValue, units_and, AnalysisValue, analysed_from, analysis_of}
 use Rattle.edited_unit_laws.specs.Lines.{Each}
@@ -24,7 +24,7 @@ use Rattle.analysis.specs.Changed as page
 -- The tokens of a unit are read by its standard to its tree (Annex A), and bound so (6.2).
 pub record IsRead (u : UnitAnalysis) : Type 0 where
   pub reads : read_of (grammar (dialect u.standard)) u.text.toks ≡ Ok u.tree
-  pub binds : binding_of u.text.toks u.tree ≡ Ok u.bound
+  pub binds : binding_by u.standard u.text.toks u.tree ≡ Ok u.bound
 
 -- they are of the standards of these units
 abbrev pub AreOfStandards : List UnitValue → List UnitAnalysis → Type 0

@@ -2,7 +2,7 @@
 use Rattle.std.specs.Prelude.{map}
 use Rattle.macro_body.specs.Macro.{Table as Macros}
 use Rattle.macro_expand.specs.Renaming.{Renaming, renamed, renamed_macro, renamed_note}
-use Rattle.unit_steps.specs.Notes.{Note, Reaches, Happened, Defined, Undefined, Tested, Left, Linked, Answered, Named, Entered, Exited}
+use Rattle.unit_steps.specs.Notes.{Note, Reaches, Happened, Defined, Undefined, Tested, Left, Linked, Answered, Named, Entered, Exited, ReadOnce}
 use Rattle.include_tree.specs.Sections.{Section, section}
 use Rattle.unit_steps.specs.State.{State}
 use Rattle.include_tree.specs.Walk.{Stepped, stepped}
@@ -21,6 +21,7 @@ renamed_happening r (Answered number) = Answered (renamed r number)
 renamed_happening r (Named toks) = Named (map (renamed r) toks)
 renamed_happening r (Entered at file before) = Entered (r.move at) file before
 renamed_happening r (Exited at file before) = Exited (r.move at) file before
+renamed_happening r (ReadOnce passed at file before) = ReadOnce passed (r.move at) file before
 
 -- a state over the edited files, with these macros: work and counts stay
 abbrev pub renamed_state : Editing → Renaming → Macros → State → State
@@ -30,6 +31,8 @@ renamed_state edit r macros s = record {
   work = s.work;
   names = map (renamed r) s.names;
   before = s.before;
+  behind = s.behind;
+  once = s.once;
 }
 
 -- a section whose `#` moved, and what an item gives

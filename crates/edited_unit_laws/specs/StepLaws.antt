@@ -35,9 +35,9 @@ RunsGoAlike = (c : Change) → KeepsNames c → (old new : Source) (unit : UnitV
 
 -- A renamed `define` line defines the renamed macro: the macros are kept behind it.
 abbrev pub DefinitionsGoAlike : Type 0
-DefinitionsGoAlike = (c : Change) → KeepsNames c → (file new : SourceFile) (at at2 : Pos) (toks : List Token) (macros : Macros) (s : State)
+DefinitionsGoAlike = (c : Change) → KeepsNames c → (gnu : Bool) (file new : SourceFile) (at at2 : Pos) (toks : List Token) (macros : Macros) (s : State)
     → Each (Fits c) toks → line_kind toks ≡ Define → KeepsLine c.renaming toks
-    → GoesAlike c (IsPutOutRenamed c) macros s (define_of file at toks s) (define_of new at2 (map (renamed c.renaming) toks) (moved c macros s))
+    → GoesAlike c (IsPutOutRenamed c) macros s (define_of gnu file at toks s) (define_of gnu new at2 (map (renamed c.renaming) toks) (moved c macros s))
 
 -- So are they behind a renamed `undef` line.
 abbrev pub UndefinitionsGoAlike : Type 0

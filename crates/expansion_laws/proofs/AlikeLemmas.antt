@@ -1,5 +1,5 @@
 -- Expansions of tokens that are alike.
-use Rattle.std.proofs.Common.{◌≡◌, ℕ, zero, suc, ◌+◌, ◌-◌, ◌<◌, ◌≤◌, ◌&&◌, ◌==◌, Bool, true, false, not, cond, List, [], ◌∷◌, ◌++◌, length, map, Option, Some, None, Result, Ok, Err, refl, ap, sym, subst, ◌∙◌, arith, nat_lt, length-append}
+use Rattle.std.proofs.Common.{◌≡◌, ℕ, zero, suc, ◌+◌, ◌-◌, ◌<◌, ◌≤◌, Bool, true, false, not, cond, List, [], ◌∷◌, ◌++◌, length, map, Option, Some, None, Result, Ok, Err, refl, ap, sym, subst, ◌∙◌, arith, nat_lt, length-append}
 use Rattle.std.specs.List.{list_all}
 use Rattle.std.specs.Option.{option_map}
 use Rattle.std.proofs.lemmas.Bool.{ltb-false, le-ltb, and_parts}
@@ -12,14 +12,14 @@ use Rattle.macro_body.specs.declared.definitions.Form.{Form}
 use Rattle.macro_body.specs.declared.definitions.Form.TheVariants as form
 use Rattle.macro_body.specs.declared.definitions.Definition.{Definition}
 use Rattle.macro_body.specs.Hides.{Hidden, hidden, hide_more}
-use Rattle.macro_body.specs.Macro.{Table, arity, is_function}
+use Rattle.macro_body.specs.Macro.{Table, is_function}
 use Rattle.macro_body.specs.Bodies.{Part, chains_of, occurs_alone}
-use Rattle.macro_expand.specs.Calls.{Call, Role, Closes, Separates, Belongs, role_of, level_after, fewer, onto_first, with_token, with_argument, call_step, call_from, commas_of, is_blank, completed, arguments_of}
+use Rattle.macro_expand.specs.Calls.{Call, Role, Closes, Separates, Belongs, role_of, level_after, fewer, onto_first, with_token, with_argument, call_step, call_from, commas_of, is_blank, arguments_of}
 use Rattle.macro_body.specs.Notes.{Fault, OpenCall, WrongArguments, TooMuchWork, TooDeep, Note, Replaced, Linked, Expanded, expanded, put_out, noted, onward}
 use Rattle.macro_body.specs.Substitution.{Arguments, Made, made, result_of, cost_of, path_string}
 use Rattle.macro_expand.specs.Expansion.{Setting, Next, most_depth, one_more, stays, Full, full, with_full, without_full, alone, full_step, full_from, spent, substituted, put_for, links_name, first_notes, replaced, added_by, called_with, called, behind_name, act, macro_of, whole}
 use Rattle.macro_body.proofs.ResultLemmas.{ok_same, err_ok, onward_ok, cond_ok, cond_ok_yes}
-use Rattle.macro_expand.proofs.CallLemmas.{AllWithin, none, more, Shorter, call_shorter, arguments_within}
+use Rattle.macro_expand.proofs.CallLemmas.{AllWithin, none, more, Shorter, call_shorter, arguments_within, arguments_mapped}
 use Rattle.macro_expand.proofs.StepLemmas.{put_for_puts}
 use Rattle.macro_expand.proofs.WholeLemmas.{whole_below_itself, whole_is_step, whole_falls}
 use Rattle.expansion_laws.proofs.ClosureLemmas.{found_macro}
@@ -143,33 +143,14 @@ module _ (far : Bool) where
       ap (λ (r : Role). call_step r commas level (unlined_hidden t) (map unlined_hidden ts) (call_from (map unlined_hidden ts))) (role_plain commas level t.tok)
       ∙ step_plain t ts commas level (call_from_plain ts) (role_of commas level t.tok)
 
-  cond_map : {A B : Type 0} (f : A → B) (b : Bool) (x y : A) → cond b (f x) (f y) ≡ f (cond b x y)
-  cond_map f true x y = refl
-  cond_map f false x y = refl
-
   blank_plain : (lists : List (List Hidden)) → is_blank (unlined_lists lists) ≡ is_blank lists
   blank_plain [] = refl
   blank_plain ([] ∷ []) = refl
   blank_plain ([] ∷ l ∷ ls) = refl
   blank_plain ((h ∷ hs) ∷ ls) = refl
 
-  one_more_plain : (lists : List (List Hidden)) → unlined_lists lists ++ [] ∷ [] ≡ unlined_lists (lists ++ [] ∷ [])
-  one_more_plain [] = refl
-  one_more_plain (l ∷ ls) = ap (λ (v : List (List Hidden)). map unlined_hidden l ∷ v) (one_more_plain ls)
-
-  completed_plain : (m : Definition) (lists : List (List Hidden)) → completed m (unlined_lists lists) ≡ unlined_lists (completed m lists)
-  completed_plain m lists =
-      ap (λ b. cond (arity m == 0 && b) [] (cond (m.variadic && length (unlined_lists lists) == length m.params) (unlined_lists lists ++ [] ∷ []) (unlined_lists lists))) (blank_plain lists)
-      ∙ ap (λ n. cond (arity m == 0 && is_blank lists) [] (cond (m.variadic && n == length m.params) (unlined_lists lists ++ [] ∷ []) (unlined_lists lists))) (length-map lists (map unlined_hidden))
-      ∙ ap (λ l. cond (arity m == 0 && is_blank lists) [] (cond (m.variadic && length lists == length m.params) l (unlined_lists lists))) (one_more_plain lists)
-      ∙ ap (λ l. cond (arity m == 0 && is_blank lists) [] l) (cond_map unlined_lists (m.variadic && length lists == length m.params) (lists ++ [] ∷ []) lists)
-      ∙ cond_map unlined_lists (arity m == 0 && is_blank lists) [] (cond (m.variadic && length lists == length m.params) (lists ++ [] ∷ []) lists)
-
   arguments_plain : (m : Definition) (lists : List (List Hidden)) → arguments_of m (unlined_lists lists) ≡ option_map unlined_lists (arguments_of m lists)
-  arguments_plain m lists =
-      ap (λ l. cond (length l == arity m) (Some l) None) (completed_plain m lists)
-      ∙ ap (λ n. cond (n == arity m) (Some (unlined_lists (completed m lists))) None) (length-map (completed m lists) (map unlined_hidden))
-      ∙ cond_map (option_map unlined_lists) (length (completed m lists) == arity m) (Some (completed m lists)) None
+  arguments_plain m lists = arguments_mapped (map unlined_hidden) refl m m refl refl refl lists (blank_plain lists)
 
   -- what becomes alike, is there in the other too
   some_alike : {A B : Type 0} (f : A → B) (x y : Option A) (a : A) → option_map f y ≡ option_map f x → x ≡ Some a → (b : A) × (y ≡ Some b) × (f b ≡ f a)

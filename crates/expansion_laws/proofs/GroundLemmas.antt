@@ -1,16 +1,16 @@
 -- Tokens that occur, with hide sets of names of macros: what an expansion keeps of them.
-use Rattle.std.proofs.Common.{◌≡◌, ℕ, zero, suc, ◌==◌, ◌&&◌, Bool, true, false, not, cond, List, [], ◌∷◌, ◌++◌, length, map, get_or, Option, Some, subst}
+use Rattle.std.proofs.Common.{◌≡◌, ℕ, zero, suc, Bool, true, false, not, cond, List, [], ◌∷◌, ◌++◌, length, map, get_or, Option, Some, subst}
 use Rattle.std.proofs.lemmas.Option.{none-some, same_Some}
 use Rattle.cs_base.specs.Token.{Token}
 use Rattle.macro_body.specs.declared.definitions.Definition.{Definition}
 use Rattle.macro_body.specs.Hides.{Hidden, hides_name, in_both, lacking, with_names, hide_more}
-use Rattle.macro_body.specs.Macro.{Table, arity}
-use Rattle.macro_expand.specs.Calls.{Call, Role, Closes, Separates, Belongs, CallFrom, role_of, level_after, fewer, onto_first, with_token, with_argument, closed, call_step, call_from, completed, arguments_of, is_blank}
+use Rattle.macro_body.specs.Macro.{Table}
+use Rattle.macro_expand.specs.Calls.{Call, Role, Closes, Separates, Belongs, CallFrom, role_of, level_after, fewer, onto_first, with_token, with_argument, closed, call_step, call_from, completed, are_enough, arguments_of}
 use Rattle.macro_body.specs.Substitution.{with_gap, moved_in, argument_for}
 use Rattle.macro_expand.specs.Renaming.{Occurring}
 use Rattle.macro_expand.specs.Laws.{AllDefined, Held}
 use Rattle.expansion_laws.proofs.RenamedLemmas.{AllOccurHidden}
-use Rattle.macro_expand.proofs.CallLemmas.{option_map_is, cond_has, cond_some}
+use Rattle.macro_expand.proofs.CallLemmas.{option_map_is, completed_has, cond_some}
 
 -- Which tokens occur, and the macros.
 pub record Ground : Type 0 where
@@ -65,7 +65,7 @@ pub Good-with_gap : (w : Ground) (gap : Bool) (hs : List Hidden) → Good w hs �
 Good-with_gap w gap [] g = tt
 Good-with_gap w gap (h ∷ hs) g = (g.0, g.1, g.2)
 
-Good-moved_in : (w : Ground) (hs : List Hidden) → Good w hs → Good w (map moved_in hs)
+pub Good-moved_in : (w : Ground) (hs : List Hidden) → Good w hs → Good w (map moved_in hs)
 Good-moved_in w [] g = tt
 Good-moved_in w (h ∷ hs) g = (g.0, g.1, Good-moved_in w hs g.2)
 
@@ -109,10 +109,8 @@ GoodLists-append w [] ys g k = k
 GoodLists-append w (x ∷ xs) ys g k = (g.0, GoodLists-append w xs ys g.1 k)
 
 good_completed : (w : Ground) (m : Definition) (lists : List (List Hidden)) → GoodLists w lists → GoodLists w (completed m lists)
-good_completed w m lists g =
-    cond_has (GoodLists w) (arity m == 0 && is_blank lists) [] (cond (m.variadic && length lists == length m.params) (lists ++ [] ∷ []) lists) tt
-    (cond_has (GoodLists w) (m.variadic && length lists == length m.params) (lists ++ [] ∷ []) lists (GoodLists-append w lists ([] ∷ []) g (tt, tt)) g)
+good_completed w m lists g = completed_has (GoodLists w) m lists tt g (GoodLists-append w lists ([] ∷ []) g (tt, tt))
 
 pub good_arguments : (w : Ground) (m : Definition) (lists raw : List (List Hidden)) → GoodLists w lists → arguments_of m lists ≡ Some raw → GoodLists w raw
 good_arguments w m lists raw g e =
-    subst (GoodLists w) (cond_some (length (completed m lists) == arity m) (completed m lists) raw e) (good_completed w m lists g)
+    subst (GoodLists w) (cond_some (are_enough m (length (completed m lists))) (completed m lists) raw e) (good_completed w m lists g)

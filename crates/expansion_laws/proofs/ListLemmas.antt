@@ -1,5 +1,5 @@
 -- Lists of tokens each of which passes, and the arguments of calls.
-use Rattle.std.proofs.Common.{◌≡◌, ℕ, zero, suc, ◌==◌, ◌&&◌, Bool, true, false, cond, List, [], ◌∷◌, ◌++◌, length, map, get_or, Option, Some, refl, subst}
+use Rattle.std.proofs.Common.{◌≡◌, ℕ, zero, suc, Bool, true, List, [], ◌∷◌, ◌++◌, length, map, get_or, Option, Some, refl, subst}
 use Rattle.std.specs.Prelude.{slice_get}
 use Rattle.std.specs.List.{list_all}
 use Rattle.std.proofs.lemmas.Option.{none-some, same_Some}
@@ -7,10 +7,9 @@ use Rattle.std.proofs.lemmas.Bool.{and_parts}
 use Rattle.cs_base.specs.Token.{Token}
 use Rattle.macro_body.specs.declared.definitions.Definition.{Definition}
 use Rattle.macro_body.specs.Hides.{Hidden, hide_more, toks_of}
-use Rattle.macro_body.specs.Macro.{arity}
-use Rattle.macro_expand.specs.Calls.{Call, Role, Closes, Separates, Belongs, CallFrom, role_of, level_after, fewer, onto_first, with_token, with_argument, closed, call_step, call_from, completed, arguments_of, is_blank}
+use Rattle.macro_expand.specs.Calls.{Call, Role, Closes, Separates, Belongs, CallFrom, role_of, level_after, fewer, onto_first, with_token, with_argument, closed, call_step, call_from, completed, are_enough, arguments_of}
 use Rattle.macro_body.specs.Notes.{Note}
-use Rattle.macro_expand.proofs.CallLemmas.{option_map_is, cond_has, cond_some}
+use Rattle.macro_expand.proofs.CallLemmas.{option_map_is, completed_has, cond_some}
 
 -- each token has it, each of these with hide sets, each of these lists
 abbrev pub AllToks : (Token → Type 0) → List Token → Type 0
@@ -90,13 +89,11 @@ lists_both P [] ys h k = k
 lists_both P (x ∷ xs) ys h k = (h.0, lists_both P xs ys h.1 k)
 
 good_completed : (P : Token → Type 0) (m : Definition) (lists : List (List Hidden)) → AllLists P lists → AllLists P (completed m lists)
-good_completed P m lists good =
-    cond_has (AllLists P) (arity m == 0 && is_blank lists) [] (cond (m.variadic && length lists == length m.params) (lists ++ [] ∷ []) lists) tt
-    (cond_has (AllLists P) (m.variadic && length lists == length m.params) (lists ++ [] ∷ []) lists (lists_both P lists ([] ∷ []) good (tt, tt)) good)
+good_completed P m lists good = completed_has (AllLists P) m lists tt good (lists_both P lists ([] ∷ []) good (tt, tt))
 
 pub good_arguments : (P : Token → Type 0) (m : Definition) (lists raw : List (List Hidden)) → AllLists P lists → arguments_of m lists ≡ Some raw → AllLists P raw
 good_arguments P m lists raw good e =
-    subst (AllLists P) (cond_some (length (completed m lists) == arity m) (completed m lists) raw e) (good_completed P m lists good)
+    subst (AllLists P) (cond_some (are_enough m (length (completed m lists))) (completed m lists) raw e) (good_completed P m lists good)
 
 -- Tokens and notes, one by one.
 

@@ -1,18 +1,18 @@
 -- What a replacement puts in, under a renaming: the renamed tokens, and renamed notes.
-use Rattle.std.proofs.Common.{◌≡◌, Bool, true, false, cond, List, [], ◌∷◌, ◌++◌, map, get_or, Result, Ok, Err, refl, ap, subst, ◌∙◌}
+use Rattle.std.proofs.Common.{◌≡◌, Bool, true, false, cond, nat_lt, List, [], ◌∷◌, ◌++◌, length, map, get_or, Result, Ok, Err, refl, ap, subst, ◌∙◌}
 use Rattle.cs_base.specs.Token.{Token}
 use Rattle.macro_body.specs.Below.paste_origin.Strings.{StringFault, NotAString as NoString, stringize_of, string_text, string_origins, string_token}
 use Rattle.lexer.specs.Spelling.{is_plain_string_text}
 use Rattle.macro_body.specs.declared.definitions.Definition.{Definition}
 use Rattle.macro_body.specs.Hides.{Hidden, hidden, toks_of}
-use Rattle.macro_body.specs.Bodies.{Part, Plain, Param, Quote, Paste, chains_of}
+use Rattle.macro_body.specs.Bodies.{Part, Plain, Param, Quote, Paste, Rest, chains_of}
 use Rattle.macro_body.specs.Notes.{Fault, Note, Stringized}
-use Rattle.macro_body.specs.Substitution.{Arguments, Made, made, put_in, string_made, operand_made, argument_for}
+use Rattle.macro_body.specs.Substitution.{Arguments, Made, made, put_in, string_made, operand_made, argument_for, rest_tokens, rest_for}
 use Rattle.macro_expand.specs.Renaming.{renamed, renamed_hidden, renamed_note, occurs, AllOccur, KeepsBody, AllRespected}
 use Rattle.macro_body.proofs.ResultLemmas.{ok_same, err_ok}
 use Rattle.expansion_laws.proofs.RenamedLemmas.{renamed_part, renamed_lists, renamed_arguments, toks_of-renamed, get_or-renamed, tokens_for-renamed}
 use Rattle.expansion_laws.proofs.PartLemmas.{PartOccurs as PartFits, PartsOccur as PartsFit, ChainsOccur as ChainsFit, chains_of-occur as chains_of-fit}
-use Rattle.expansion_laws.proofs.WorldLemmas.{ground, World, Good, GoodLists, Good-get_or, Good-argument_for}
+use Rattle.expansion_laws.proofs.WorldLemmas.{ground, World, Good, GoodLists, Good-get_or, Good-moved_in, Good-argument_for}
 
 -- Notes.
 
@@ -94,6 +94,10 @@ string-renamed w name sign toks (Ok s) is m e resp =
     (λ r. (ap (string_made (renamed w.r name) (renamed w.r sign) (map (renamed w.r) toks)) r.0, (stringize-occurs w toks s is, tt, tt)))
     resp
 
+Good-rest : (w : World) (b : Bool) (name t : Token) (hs : List Hidden) → occurs w.o t ≡ true → Good w hs → Good w (rest_tokens b name t hs)
+Good-rest w true name t hs here g = (here, tt, Good-moved_in w hs g)
+Good-rest w false name t hs here g = tt
+
 pub operand-renamed : (w : World) (name : Token) (args : Arguments) → GoodArguments w args → (lone : Bool) (p : Part) → PartOccurs w p → (m : Made (List Hidden))
     → operand_made name args lone p ≡ Ok m → AllRespected w.o w.r m.notes
     → IsMade w m (operand_made (renamed w.r name) (renamed_arguments w.r args) lone (renamed_part w.r p))
@@ -117,3 +121,9 @@ operand-renamed w name args g lone (Quote t i) here m e resp =
     let same : toks_of (get_or (renamed_lists w.r args.raw) i []) ≡ map (renamed w.r) toks =
     ap toks_of (get_or-renamed w.r args.raw i) ∙ toks_of-renamed w.r (get_or args.raw i []) in
     (ap (λ ts. string_made (renamed w.r name) (renamed w.r t) ts (stringize_of ts)) same ∙ k.0, k.1)
+operand-renamed w name args g lone (Rest t i) here m e resp =
+    let P : Made (List Hidden) → Type 0 = λ v. IsMade w v (operand_made (renamed w.r name) (renamed_arguments w.r args) lone (Rest (renamed w.r t) i)) in
+    subst P (ok_same (made (rest_for name t args.raw i) []) m e) (
+      ap (λ v. Ok (made v [])) (tokens_for-renamed w.r name args lone (Rest t i)),
+      Good-rest w (nat_lt i (length args.raw)) name t (get_or args.raw i []) here (Good-get_or w args.raw i g.raw),
+    )

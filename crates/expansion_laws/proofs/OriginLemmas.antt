@@ -11,10 +11,10 @@ use Rattle.macro_body.specs.declared.definitions.Form.TheVariants as form
 use Rattle.macro_body.specs.declared.definitions.Definition.{Definition}
 use Rattle.macro_body.specs.Hides.{Hidden, hidden, hide_more, in_both, toks_of, hides_name}
 use Rattle.macro_body.specs.Macro.{Table, is_function}
-use Rattle.macro_body.specs.Bodies.{Part, Plain, Param, Quote, Paste, chains_of, occurs_alone}
+use Rattle.macro_body.specs.Bodies.{Part, Plain, Param, Quote, Paste, Rest, chains_of, occurs_alone}
 use Rattle.macro_expand.specs.Calls.{Call, call_from, commas_of, arguments_of}
 use Rattle.macro_body.specs.Notes.{Fault, OpenCall, WrongArguments, TooMuchWork, TooDeep, Note, Replaced, Linked, Stringized, Pasted, Expanded, expanded, put_out, noted, onward}
-use Rattle.macro_body.specs.Substitution.{Arguments, Made, made, made_both, with_gap, put_in, argument_for, is_alone, string_made, operand_made, operands_made, chains_made, token_pasted, pasted_behind, two_pasted, chain_pasted, chains_pasted, result_of, cost_of, line_number, path_string}
+use Rattle.macro_body.specs.Substitution.{Arguments, Made, made, made_both, with_gap, put_in, argument_for, rest_tokens, rest_for, is_alone, string_made, operand_made, operands_made, chains_made, token_pasted, pasted_behind, two_pasted, chain_pasted, chains_pasted, result_of, cost_of, line_number, path_string}
 use Rattle.macro_expand.specs.Expansion.{Setting, Next, most_depth, one_more, stays, Full, full, with_full, without_full, alone, full_step, full_from, spent, substituted, put_for, first_notes, replaced, added_by, called_with, called, behind_name, act, macro_of, step, whole}
 use Rattle.macro_expand.specs.Renaming.{Occurring, occurs, AllOccur}
 use Rattle.macro_expand.specs.Laws.{AllDefined, Passes, AllMadePass, TokensComeFromSomewhere}
@@ -22,7 +22,7 @@ use Rattle.macro_body.proofs.ResultLemmas.{ok_same, err_ok, onward_ok, cond_ok, 
 use Rattle.macro_expand.proofs.CallLemmas.{AllWithin, none, more, call_shorter, arguments_within}
 use Rattle.macro_expand.proofs.StepLemmas.{Below, put_for_puts}
 use Rattle.macro_expand.proofs.WholeLemmas.{whole_below_itself, whole_is_step}
-use Rattle.expansion_laws.proofs.GroundLemmas.{Ground, AllDefined-append, AllDefined-in_both, Good, GoodLists, Good-append, Good-hide_more, Good-get_or, Good-with_gap, Good-argument_for, good_call, good_arguments}
+use Rattle.expansion_laws.proofs.GroundLemmas.{Ground, AllDefined-append, AllDefined-in_both, Good, GoodLists, Good-append, Good-hide_more, Good-get_or, Good-with_gap, Good-moved_in, Good-argument_for, good_call, good_arguments}
 use Rattle.expansion_laws.proofs.PartLemmas.{PartOccurs, PartsOccur, ChainsOccur, chains_of-occur}
 
 made_split : (o : Occurring) (xs ys : List Note) → AllMadePass o (xs ++ ys) → AllMadePass o xs × AllMadePass o ys
@@ -45,6 +45,10 @@ string_good g name sign toks (Ok s) m e pass =
     let P : Made (List Hidden) → Type 0 = λ v. AllMadePass g.o v.notes → Good g v.value in
     subst P (ok_same (made (hidden (put_in name sign.gap s) [] ∷ []) (Stringized toks s ∷ [])) m e) (λ r. (r.0, tt, tt)) pass
 
+rest_good : (g : Ground) (b : Bool) (name t : Token) (hs : List Hidden) → occurs g.o t ≡ true → Good g hs → Good g (rest_tokens b name t hs)
+rest_good g true name t hs here good = (here, tt, Good-moved_in g hs good)
+rest_good g false name t hs here good = tt
+
 operand_good : (g : Ground) (name : Token) (args : Arguments) → GoodArguments g args → (lone : Bool) (p : Part) → PartOccurs g p → (m : Made (List Hidden))
     → operand_made name args lone p ≡ Ok m → AllMadePass g.o m.notes → Good g m.value
 operand_good g name args good lone (Plain t) here m e pass = subst (λ (v : Made (List Hidden)). Good g v.value) (ok_same (made (hidden (put_in name t.gap t) [] ∷ []) []) m e) (here, tt, tt)
@@ -55,6 +59,9 @@ operand_good g name args good false (Param t i) here m e pass =
     subst (λ (v : Made (List Hidden)). Good g v.value) (ok_same (made (argument_for t (get_or args.raw i [])) []) m e) (Good-argument_for g t (get_or args.raw i []) (Good-get_or g args.raw i good.raw))
 operand_good g name args good lone (Quote t i) here m e pass =
     string_good g name t (toks_of (get_or args.raw i [])) (stringize_of (toks_of (get_or args.raw i []))) m e pass
+operand_good g name args good lone (Rest t i) here m e pass =
+    subst (λ (v : Made (List Hidden)). Good g v.value) (ok_same (made (rest_for name t args.raw i) []) m e)
+    (rest_good g (nat_lt i (length args.raw)) name t (get_or args.raw i []) here (Good-get_or g args.raw i good.raw))
 
 abbrev put_first : {A : Type 0} → Made A → Made (List A) → Result (Made (List A)) Fault
 put_first v vs = Ok (made_both (λ x xs. x ∷ xs) v vs)

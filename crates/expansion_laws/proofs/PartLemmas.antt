@@ -1,9 +1,10 @@
 -- The parts of a replacement list whose tokens occur.
-use Rattle.std.proofs.Common.{◌≡◌, ℕ, Bool, true, false, cond, List, [], ◌∷◌, Option, Some, None, is_some}
+use Rattle.std.proofs.Common.{◌≡◌, ℕ, Bool, true, false, cond, List, [], ◌∷◌, map, Option, Some, None, is_some, subst}
 use Rattle.cs_base.specs.Token.{Token}
 use Rattle.line_shape.specs.Signs.{is_paste}
 use Rattle.macro_body.specs.declared.definitions.Definition.{Definition}
-use Rattle.macro_body.specs.Bodies.{Part, Plain, Param, Quote, Paste, quoted_parameter, param_or_plain, lone_part, quote_or, parts_from, is_operator, pasted_to, chains_in, chains_of}
+use Rattle.macro_body.specs.Bodies.{Part, Plain, Param, Quote, Paste, Rest, quoted_parameter, param_or_plain, lone_part, quote_or, parts_from, is_operator, pasted_to, chains_in, rest_or_chain, chains_of}
+use Rattle.macro_body.proofs.ChainLemmas.{rest_by}
 use Rattle.macro_body.specs.Macro.{parameter_at}
 use Rattle.macro_expand.specs.Renaming.{occurs, AllOccur}
 use Rattle.expansion_laws.proofs.GroundLemmas.{Ground}
@@ -13,6 +14,7 @@ PartOccurs w (Plain t) = occurs w.o t ≡ true
 PartOccurs w (Paste t) = occurs w.o t ≡ true
 PartOccurs w (Param t i) = Unit {0}
 PartOccurs w (Quote t i) = Unit {0}
+PartOccurs w (Rest t i) = occurs w.o t ≡ true
 
 abbrev pub PartsOccur : Ground → List Part → Type 0
 PartsOccur w [] = Unit {0}
@@ -61,6 +63,10 @@ chains_in-occur w (p ∷ q ∷ ps) h =
     (pasted_to-occur w p (chains_in ps) h.0 (chains_in-occur w ps h.1.1))
     ((h.0, tt), chains_in-occur w (q ∷ ps) h.1)
 
+rests-occur : (w : Ground) (m : Definition) (cs : List (List Part)) → ChainsOccur w cs → ChainsOccur w (map (rest_or_chain m) cs)
+rests-occur w m [] h = tt
+rests-occur w m (c ∷ cs) h = (rest_by (PartsOccur w) m c h.0 (λ t q i is. ((subst (PartsOccur w) is h.0).0, tt)), rests-occur w m cs h.1)
+
 pub chains_of-occur : (w : Ground) (m : Definition) → AllOccur w.o m.body → ChainsOccur w (chains_of m)
 unfolding chains_of
-chains_of-occur w m h = chains_in-occur w (parts_from m false m.body) (parts_from-occur w m false m.body h)
+chains_of-occur w m h = rests-occur w m (chains_in (parts_from m false m.body)) (chains_in-occur w (parts_from m false m.body) (parts_from-occur w m false m.body h))

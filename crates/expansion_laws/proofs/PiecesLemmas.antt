@@ -56,11 +56,6 @@ made_of_both files x y z text origins hx hy = record {
       ∙ sym (flat_map-append (λ (piece : Token). piece.origins) hx.pieces hy.pieces);
 }
 
-joined_whole : (among : Characters) (files : List Token) (x y : Token) (kind : Kind) → IsWhole among files x → IsWhole among files y → IsWhole among files (joined x y kind)
-joined_whole among files x y kind hx hy = λ h.
-    let both = and_parts (list_all among x.text) (list_all among y.text) (sym (list_all-append among x.text y.text) ∙ h) in
-    made_of_both files x y (joined x y kind) refl refl (hx both.0) (hy both.1)
-
 pub pasted_whole : (among : Characters) (files : List Token) (name x y z : Token) → IsWhole among files x → IsWhole among files y → glue_of x y ≡ Ok z
     → IsWhole among files (put_in name x.gap z)
 pasted_whole among files name x y z hx hy is =

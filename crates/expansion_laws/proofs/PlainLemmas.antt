@@ -1,5 +1,5 @@
 -- What macros put in, where lines, white space before the first token, and places are left out.
-use Rattle.std.proofs.Common.{◌≡◌, ℕ, zero, suc, ◌+◌, Bool, true, false, cond, List, [], ◌∷◌, ◌++◌, length, map, get_or, Option, Some, None, Result, Ok, Err, refl, ap, sym, ◌∙◌, arith}
+use Rattle.std.proofs.Common.{◌≡◌, ℕ, zero, suc, ◌+◌, Bool, true, false, cond, nat_lt, List, [], ◌∷◌, ◌++◌, length, map, get_or, Option, Some, None, Result, Ok, Err, refl, ap, sym, ◌∙◌, arith}
 use Rattle.std.specs.List.{flat_map}
 use Rattle.std.proofs.lemmas.List.{length-map, map-append}
 use Rattle.cs_base.specs.declared.positions.Pos.{Pos}
@@ -13,9 +13,9 @@ use Rattle.lexer.specs.Spelling.{is_plain_string_text}
 use Rattle.lexer.specs.Characters.{double_quote}
 use Rattle.macro_body.specs.Below.paste_origin.Strings.{NotAString, later_spelling, spellings_of, later_origins, all_origins, string_text, string_origins, string_token, stringize_of}
 use Rattle.macro_body.specs.Hides.{Hidden, hidden, toks_of, in_both}
-use Rattle.macro_body.specs.Bodies.{Part, Plain, Param, Quote, Paste}
+use Rattle.macro_body.specs.Bodies.{Part, Plain, Param, Quote, Paste, Rest}
 use Rattle.macro_body.specs.Notes.{Fault, TooMuchWork, Note, Stringized, Pasted, onward}
-use Rattle.macro_body.specs.Substitution.{Arguments, Made, made, made_both, put_in, moved_in, with_gap, argument_for, tokens_for, part_cost, parts_cost, chains_cost, cost_of, is_alone, string_made, operand_made, operands_made, chains_made, token_pasted, pasted_behind, two_pasted, chain_pasted, chains_pasted, result_of}
+use Rattle.macro_body.specs.Substitution.{Arguments, Made, made, made_both, put_in, moved_in, with_gap, argument_for, rest_tokens, tokens_for, part_cost, parts_cost, chains_cost, cost_of, is_alone, string_made, operand_made, operands_made, chains_made, token_pasted, pasted_behind, two_pasted, chain_pasted, chains_pasted, result_of}
 use Rattle.expansion_laws.specs.Alike.{kept_place, kept_origins, kept}
 use Rattle.expansion_laws.specs.Alike as alike
 
@@ -184,6 +184,15 @@ module _ (far : Bool) where
       body_same : (t : Token) → out (hidden (put_in name2 t.gap t) [] ∷ []) ≡ out (hidden (put_in name t.gap t) [] ∷ [])
       body_same t = ap (λ (n : Token). hidden (record t { origins = kept_origins far t.origins; at = n.at; line = 0; direct = false }) [] ∷ []) names
 
+      rest_same : (b : Bool) (t : Token) (hs2 hs : List Hidden) → out hs2 ≡ out hs → out (rest_tokens b name2 t hs2) ≡ out (rest_tokens b name t hs)
+      rest_same true t hs2 hs same =
+          ap (λ (l : List Hidden). l ++ out (map moved_in hs2)) (body_same t)
+          ∙ ap (λ (l : List Hidden). out (hidden (put_in name t.gap t) [] ∷ []) ++ l) (sym (moved_lines hs2) ∙ ap (map moved_in) same ∙ moved_lines hs)
+      rest_same false t hs2 hs same = refl
+
+      raw_length : length args2.raw ≡ length args.raw
+      raw_length = sym (length-map args2.raw (map unlined_hidden)) ∙ ap length raws ∙ length-map args.raw (map unlined_hidden)
+
       tokens_same : (lone : Bool) (p : Part) → out (tokens_for name2 args2 lone p) ≡ out (tokens_for name args lone p)
       tokens_same lone (Plain t) = body_same t
       tokens_same lone (Paste t) = body_same t
@@ -192,6 +201,9 @@ module _ (far : Bool) where
       tokens_same false (Param t i) =
           sym (raw_argument t (get_or args2.raw i [])) ∙ ap (argument_for t) (at_same (map unlined_hidden) refl args.raw args2.raw raws i) ∙ raw_argument t (get_or args.raw i [])
       tokens_same lone (Quote t i) = refl
+      tokens_same lone (Rest t i) =
+          ap (λ (n : ℕ). out (rest_tokens (nat_lt i n) name2 t (get_or args2.raw i []))) raw_length
+          ∙ rest_same (nat_lt i (length args.raw)) t (get_or args2.raw i []) (get_or args.raw i []) (at_same out refl args.raw args2.raw raws i)
 
       part_same : (lone : Bool) (p : Part) → part_cost name2 args2 lone p ≡ part_cost name args lone p
       part_same lone (Quote t i) = refl
@@ -199,6 +211,8 @@ module _ (far : Bool) where
       part_same lone (Paste t) = refl
       part_same lone (Param t i) =
           sym (length-map (tokens_for name2 args2 lone (Param t i)) unlined_hidden) ∙ ap length (tokens_same lone (Param t i)) ∙ length-map (tokens_for name args lone (Param t i)) unlined_hidden
+      part_same lone (Rest t i) =
+          sym (length-map (tokens_for name2 args2 lone (Rest t i)) unlined_hidden) ∙ ap length (tokens_same lone (Rest t i)) ∙ length-map (tokens_for name args lone (Rest t i)) unlined_hidden
 
       parts_same : (lone : Bool) (ps : List Part) → parts_cost name2 args2 lone ps ≡ parts_cost name args lone ps
       parts_same lone [] = refl
@@ -216,6 +230,7 @@ module _ (far : Bool) where
       operand_same lone (Quote t i) =
           string_same t (toks_of (get_or args2.raw i [])) (toks_of (get_or args.raw i []))
           (sym (toks_plain (get_or args2.raw i [])) ∙ ap toks_of (at_same out refl args.raw args2.raw raws i) ∙ toks_plain (get_or args.raw i []))
+      operand_same lone (Rest t i) = ap (λ (l : List Hidden). Ok (made l [])) (tokens_same lone (Rest t i))
 
       cons_same : {A B : Type 0} (f : A → B) (a a2 : A) (b b2 : List A) → f a2 ≡ f a → map f b2 ≡ map f b → map f (a2 ∷ b2) ≡ map f (a ∷ b)
       cons_same f a a2 b b2 h k = ap (λ (x : _). x ∷ map f b2) h ∙ ap (λ (l : List _). f a ∷ l) k

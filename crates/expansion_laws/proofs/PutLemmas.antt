@@ -1,5 +1,5 @@
 -- What macros put in is not direct.
-use Rattle.std.proofs.Common.{◌≡◌, ℕ, Bool, true, false, List, [], ◌∷◌, ◌++◌, map, get_or, Result, Ok, Err, refl, subst, nat_lt, ◌-◌}
+use Rattle.std.proofs.Common.{◌≡◌, ℕ, Bool, true, false, List, [], ◌∷◌, ◌++◌, map, get_or, Result, Ok, Err, refl, subst, length, nat_lt, ◌-◌}
 use Rattle.cs_base.specs.Token.{Token}
 use Rattle.macro_body.specs.Below.paste_origin.Pasting.{PasteFault, glue_of}
 use Rattle.macro_body.specs.Below.paste_origin.Strings.{StringFault, stringize_of}
@@ -7,9 +7,9 @@ use Rattle.macro_body.specs.declared.definitions.Form.{Form}
 use Rattle.macro_body.specs.declared.definitions.Form.TheVariants as form
 use Rattle.macro_body.specs.declared.definitions.Definition.{Definition}
 use Rattle.macro_body.specs.Hides.{Hidden, hidden, in_both, toks_of}
-use Rattle.macro_body.specs.Bodies.{Part, Plain, Param, Quote, Paste, chains_of}
+use Rattle.macro_body.specs.Bodies.{Part, Plain, Param, Quote, Paste, Rest, chains_of}
 use Rattle.macro_body.specs.Notes.{Fault, NotOneToken, NotAString, TooMuchWork, Stringized, Pasted, Expanded, expanded, noted, onward}
-use Rattle.macro_body.specs.Substitution.{Arguments, Made, made, made_both, put_in, moved_in, with_gap, argument_for, is_alone, string_made, operand_made, operands_made, chains_made, token_pasted, pasted_behind, two_pasted, chain_pasted, chains_pasted, result_of, cost_of, line_number, path_string}
+use Rattle.macro_body.specs.Substitution.{Arguments, Made, made, made_both, put_in, moved_in, with_gap, argument_for, rest_tokens, rest_for, is_alone, string_made, operand_made, operands_made, chains_made, token_pasted, pasted_behind, two_pasted, chain_pasted, chains_pasted, result_of, cost_of, line_number, path_string}
 use Rattle.macro_expand.specs.Expansion.{Next, Full, full_from, spent, substituted, put_for}
 use Rattle.macro_body.proofs.ResultLemmas.{ok_same, err_ok, onward_ok, cond_ok}
 use Rattle.expansion_laws.proofs.ListLemmas.{AllHidden, AllLists, hidden_both}
@@ -39,6 +39,10 @@ string_put name sign toks (Err f) m e = err_ok (NotAString name.at) m e
 string_put name sign toks (Ok s) m e =
     subst (λ (v : Made (List Hidden)). AllHidden IsPut v.value) (ok_same (made (hidden (put_in name sign.gap s) [] ∷ []) (Stringized toks s ∷ [])) m e) (refl, tt)
 
+rest_put : (b : Bool) (name t : Token) (hs : List Hidden) → AllHidden IsPut (rest_tokens b name t hs)
+rest_put true name t hs = (refl, moved_put hs)
+rest_put false name t hs = tt
+
 operand_put : (name : Token) (args : Arguments) (lone : Bool) (p : Part) (m : Made (List Hidden)) → operand_made name args lone p ≡ Ok m → AllHidden IsPut m.value
 operand_put name args lone (Plain t) m e =
     subst (λ (v : Made (List Hidden)). AllHidden IsPut v.value) (ok_same (made (hidden (put_in name t.gap t) [] ∷ []) []) m e) (refl, tt)
@@ -50,6 +54,8 @@ operand_put name args false (Param t i) m e =
     subst (λ (v : Made (List Hidden)). AllHidden IsPut v.value) (ok_same (made (argument_for t (get_or args.raw i [])) []) m e) (argument_put t (get_or args.raw i []))
 operand_put name args lone (Quote t i) m e =
     string_put name t (toks_of (get_or args.raw i [])) (stringize_of (toks_of (get_or args.raw i []))) m e
+operand_put name args lone (Rest t i) m e =
+    subst (λ (v : Made (List Hidden)). AllHidden IsPut v.value) (ok_same (made (rest_for name t args.raw i) []) m e) (rest_put (nat_lt i (length args.raw)) name t (get_or args.raw i []))
 
 abbrev put_first : {A : Type 0} → Made A → Made (List A) → Result (Made (List A)) Fault
 put_first v vs = Ok (made_both (λ x xs. x ∷ xs) v vs)

@@ -1,5 +1,5 @@
 -- What a renaming leaves as it is: signs, parts, chains, calls and costs.
-use Rattle.std.proofs.Common.{◌≡◌, ℕ, zero, suc, ◌+◌, ◌-◌, ◌&&◌, ◌||◌, ◌==◌, Bool, true, false, cond, List, [], ◌∷◌, ◌++◌, length, map, get_or, Option, Some, None, is_some, refl, ap, ◌∙◌, inl, inr, arith, codes}
+use Rattle.std.proofs.Common.{◌≡◌, ℕ, zero, suc, ◌+◌, ◌-◌, ◌&&◌, ◌||◌, Bool, true, false, cond, nat_lt, List, [], ◌∷◌, ◌++◌, length, map, get_or, Option, Some, None, is_some, refl, ap, ◌∙◌, inl, inr, arith, codes}
 use Rattle.std.specs.Option.{option_map}
 use Rattle.std.specs.Str.{bytes_eq}
 use Rattle.std.proofs.lemmas.List.{length-map}
@@ -7,11 +7,12 @@ use Rattle.std.proofs.lemmas.Bool.{cases_Bool}
 use Rattle.cs_base.specs.Token.{Token}
 use Rattle.macro_body.specs.declared.definitions.Definition.{Definition}
 use Rattle.line_shape.specs.Signs.{is_punctuator, is_sign, is_open, is_close, is_comma, is_hash, is_paste}
-use Rattle.macro_body.specs.Hides.{Hidden, toks_of}
+use Rattle.macro_body.specs.Hides.{Hidden, hidden, toks_of}
 use Rattle.macro_body.specs.Macro.{Table, arity, is_function, parameter_at}
-use Rattle.macro_body.specs.Bodies.{Part, Plain, Param, Quote, Paste, next_parameter, quoted_parameter, param_or_plain, lone_part, quote_or, parts_from, is_operator, pasted_to, chains_in, chains_of, is_lone, occurs_alone}
-use Rattle.macro_expand.specs.Calls.{Call, Role, Closes, Separates, Belongs, CallFrom, separates, fewer, role_of, level_after, onto_first, with_token, with_argument, call_step, call_from, commas_of, is_blank, completed, arguments_of}
-use Rattle.macro_body.specs.Substitution.{Arguments, with_gap, moved_in, argument_for, tokens_for, part_cost, parts_cost, is_alone, chains_cost, cost_of}
+use Rattle.macro_body.specs.Bodies.{Part, Plain, Param, Quote, Paste, Rest, token_of, next_parameter, quoted_parameter, param_or_plain, lone_part, quote_or, parts_from, is_operator, pasted_to, chains_in, is_number, is_plain_comma, rest_param, rest_of, rest_or, rest_or_chain, chains_of, is_lone, occurs_alone}
+use Rattle.macro_expand.specs.Calls.{Call, Role, Closes, Separates, Belongs, CallFrom, separates, fewer, role_of, level_after, onto_first, with_token, with_argument, call_step, call_from, commas_of, is_blank, arguments_of}
+use Rattle.macro_expand.proofs.CallLemmas.{cond_has, arguments_mapped}
+use Rattle.macro_body.specs.Substitution.{Arguments, put_in, with_gap, moved_in, argument_for, rest_tokens, tokens_for, part_cost, parts_cost, is_alone, chains_cost, cost_of}
 use Rattle.macro_expand.specs.Renaming.{Renaming, renamed, renamed_hidden, renamed_macro, Occurring, occurs, KeepsBody, Keeps}
 
 -- Signs.
@@ -42,6 +43,7 @@ renamed_part r (Plain t) = Plain (renamed r t)
 renamed_part r (Param t i) = Param (renamed r t) i
 renamed_part r (Quote t i) = Quote (renamed r t) i
 renamed_part r (Paste t) = Paste (renamed r t)
+renamed_part r (Rest t i) = Rest (renamed r t) i
 
 next_parameter-renamed : (o : Occurring) (r : Renaming) (m : Definition) (ts : List Token) → KeepsBody o r m ts
     → next_parameter (renamed_macro r m) (map (renamed r) ts) ≡ next_parameter m ts
@@ -95,6 +97,7 @@ is_operator-renamed r (Plain t) = refl
 is_operator-renamed r (Param t i) = refl
 is_operator-renamed r (Quote t i) = refl
 is_operator-renamed r (Paste t) = refl
+is_operator-renamed r (Rest t i) = refl
 
 abbrev pub renamed_chains : Renaming → List (List Part) → List (List Part)
 renamed_chains r chains = map (map (renamed_part r)) chains
@@ -114,17 +117,103 @@ chains_in-renamed r (p ∷ q ∷ ps) =
     ∙ ap (λ c. cond (is_operator q) (renamed_chains r (pasted_to p (chains_in ps))) ((renamed_part r p ∷ []) ∷ c)) (chains_in-renamed r (q ∷ ps))
     ∙ cond_map (renamed_chains r) (is_operator q) (pasted_to p (chains_in ps)) ((p ∷ []) ∷ chains_in (q ∷ ps))
 
+-- Commas stay commas.
+
+abbrev CommaStays : Renaming → Part → Type 0
+CommaStays r p = is_plain_comma (renamed_part r p) ≡ is_plain_comma p
+
+abbrev PartsStay : Renaming → List Part → Type 0
+PartsStay r [] = Unit {0}
+PartsStay r (p ∷ ps) = CommaStays r p × PartsStay r ps
+
+abbrev ChainsStay : Renaming → List (List Part) → Type 0
+ChainsStay r [] = Unit {0}
+ChainsStay r (c ∷ cs) = PartsStay r c × ChainsStay r cs
+
+comma-stays : (o : Occurring) (r : Renaming) (old new : Table) → Keeps o r old new → (t : Token) → occurs o t ≡ true → (i : Option ℕ) → CommaStays r (param_or_plain t i)
+unfolding is_comma
+comma-stays o r old new keeps t here (Some i) = refl
+comma-stays o r old new keeps t here None = is_sign-renamed o r old new keeps (codes ",") t here
+
+quote-stays : (r : Renaming) (t : Token) (part : Part) (i : Option ℕ) → CommaStays r part → CommaStays r (quote_or t part i)
+quote-stays r t part (Some i) h = refl
+quote-stays r t part None h = h
+
+parts_from-stay : (o : Occurring) (r : Renaming) (old new : Table) → Keeps o r old new → (m : Definition) (taken : Bool) (ts : List Token) → KeepsBody o r m ts
+    → PartsStay r (parts_from m taken ts)
+unfolding parts_from
+parts_from-stay o r old new keeps m taken [] h = tt
+parts_from-stay o r old new keeps m true (t ∷ ts) h = parts_from-stay o r old new keeps m false ts h.2
+parts_from-stay o r old new keeps m false (t ∷ ts) h = (
+  quote-stays r t (lone_part m t) (quoted_parameter m t ts)
+      (cond_has (CommaStays r) (is_paste t) (Paste t) (param_or_plain t (parameter_at m t)) refl (comma-stays o r old new keeps t h.0 (parameter_at m t))),
+  parts_from-stay o r old new keeps m (is_some (quoted_parameter m t ts)) ts h.2,
+)
+
+pasted_to-stay : (r : Renaming) (p : Part) (cs : List (List Part)) → CommaStays r p → ChainsStay r cs → ChainsStay r (pasted_to p cs)
+pasted_to-stay r p [] h k = ((h, tt), tt)
+pasted_to-stay r p (c ∷ cs) h k = ((h, k.0), k.1)
+
+chains_in-stay : (r : Renaming) (ps : List Part) → PartsStay r ps → ChainsStay r (chains_in ps)
+unfolding chains_in
+chains_in-stay r [] h = tt
+chains_in-stay r (p ∷ []) h = ((h.0, tt), tt)
+chains_in-stay r (p ∷ q ∷ ps) h =
+    cond_has (ChainsStay r) (is_operator q) (pasted_to p (chains_in ps)) ((p ∷ []) ∷ chains_in (q ∷ ps))
+    (pasted_to-stay r p (chains_in ps) h.0 (chains_in-stay r ps h.1.1))
+    ((h.0, tt), chains_in-stay r (q ∷ ps) h.1)
+
+pub commas_of-renamed : (r : Renaming) (m : Definition) → commas_of (renamed_macro r m) ≡ commas_of m
+commas_of-renamed r m = ap (λ n. cond m.variadic (Some n) (cond m.named (Some (n - 1)) None)) (length-map m.params (renamed r))
+
+token_of-renamed : (r : Renaming) (p : Part) → token_of (renamed_part r p) ≡ renamed r (token_of p)
+token_of-renamed r (Plain t) = refl
+token_of-renamed r (Param t i) = refl
+token_of-renamed r (Quote t i) = refl
+token_of-renamed r (Paste t) = refl
+token_of-renamed r (Rest t i) = refl
+
+rest_param-renamed : (r : Renaming) (m : Definition) (p : Part) → rest_param (renamed_macro r m) (renamed_part r p) ≡ rest_param m p
+rest_param-renamed r m (Param t i) = ap (λ o. cond (is_number i o) (Some i) None) (commas_of-renamed r m)
+rest_param-renamed r m (Plain t) = refl
+rest_param-renamed r m (Quote t i) = refl
+rest_param-renamed r m (Paste t) = refl
+rest_param-renamed r m (Rest t i) = refl
+
+rest_of-renamed : (r : Renaming) (m : Definition) (chain : List Part) → PartsStay r chain → rest_of (renamed_macro r m) (map (renamed_part r) chain) ≡ rest_of m chain
+rest_of-renamed r m [] h = refl
+rest_of-renamed r m (p ∷ []) h = refl
+rest_of-renamed r m (p ∷ q ∷ []) h =
+    ap (λ b. cond (m.gnu && b) (rest_param (renamed_macro r m) (renamed_part r q)) None) h.0
+    ∙ ap (λ i. cond (m.gnu && is_plain_comma p) i None) (rest_param-renamed r m q)
+rest_of-renamed r m (p ∷ q ∷ s ∷ ps) h = refl
+
+rest_or-renamed : (r : Renaming) (chain : List Part) (i : Option ℕ) → rest_or (map (renamed_part r) chain) i ≡ map (renamed_part r) (rest_or chain i)
+rest_or-renamed r chain None = refl
+rest_or-renamed r [] (Some i) = refl
+rest_or-renamed r (p ∷ ps) (Some i) = ap (λ t. Rest t i ∷ []) (token_of-renamed r p)
+
+rests-renamed : (r : Renaming) (m : Definition) (cs : List (List Part)) → ChainsStay r cs
+    → map (rest_or_chain (renamed_macro r m)) (renamed_chains r cs) ≡ renamed_chains r (map (rest_or_chain m) cs)
+rests-renamed r m [] h = refl
+rests-renamed r m (c ∷ cs) h =
+    ap (λ i. rest_or (map (renamed_part r) c) i ∷ map (rest_or_chain (renamed_macro r m)) (renamed_chains r cs)) (rest_of-renamed r m c h.0)
+    ∙ ap (λ v. v ∷ map (rest_or_chain (renamed_macro r m)) (renamed_chains r cs)) (rest_or-renamed r c (rest_of m c))
+    ∙ ap (λ v. map (renamed_part r) (rest_or_chain m c) ∷ v) (rests-renamed r m cs h.1)
+
 pub chains_of-renamed : (o : Occurring) (r : Renaming) (old new : Table) → Keeps o r old new → (m : Definition) → KeepsBody o r m m.body
     → chains_of (renamed_macro r m) ≡ renamed_chains r (chains_of m)
 unfolding chains_of
 chains_of-renamed o r old new keeps m body =
-    ap chains_in (parts_from-renamed o r old new keeps m false m.body body) ∙ chains_in-renamed r (parts_from m false m.body)
+    ap (λ cs. map (rest_or_chain (renamed_macro r m)) cs) (ap chains_in (parts_from-renamed o r old new keeps m false m.body body) ∙ chains_in-renamed r (parts_from m false m.body))
+    ∙ rests-renamed r m (chains_in (parts_from m false m.body)) (chains_in-stay r (parts_from m false m.body) (parts_from-stay o r old new keeps m false m.body body))
 
 is_lone-renamed : (r : Renaming) (i : ℕ) (chain : List Part) → is_lone i (map (renamed_part r) chain) ≡ is_lone i chain
 is_lone-renamed r i [] = refl
 is_lone-renamed r i (Plain t ∷ ps) = refl
 is_lone-renamed r i (Quote t k ∷ ps) = refl
 is_lone-renamed r i (Paste t ∷ ps) = refl
+is_lone-renamed r i (Rest t k ∷ ps) = refl
 is_lone-renamed r i (Param t k ∷ []) = refl
 is_lone-renamed r i (Param t k ∷ p ∷ ps) = refl
 
@@ -161,6 +250,12 @@ argument_for-renamed r p hs = ap (with_gap p.gap) (moved_in-renamed r hs) ∙ wi
 abbrev pub renamed_arguments : Renaming → Arguments → Arguments
 renamed_arguments r args = record { raw = renamed_lists r args.raw; full = renamed_lists r args.full }
 
+rest_tokens-renamed : (r : Renaming) (b : Bool) (name comma : Token) (hs : List Hidden)
+    → rest_tokens b (renamed r name) (renamed r comma) (map (renamed_hidden r) hs) ≡ map (renamed_hidden r) (rest_tokens b name comma hs)
+rest_tokens-renamed r true name comma hs =
+    ap (λ l. hidden (put_in (renamed r name) (renamed r comma).gap (renamed r comma)) [] ∷ l) (moved_in-renamed r hs)
+rest_tokens-renamed r false name comma hs = refl
+
 pub tokens_for-renamed : (r : Renaming) (name : Token) (args : Arguments) (lone : Bool) (p : Part)
     → tokens_for (renamed r name) (renamed_arguments r args) lone (renamed_part r p) ≡ map (renamed_hidden r) (tokens_for name args lone p)
 tokens_for-renamed r name args lone (Plain t) = refl
@@ -170,6 +265,10 @@ tokens_for-renamed r name args true (Param t i) =
     ap (argument_for (renamed r t)) (get_or-renamed r args.full i) ∙ argument_for-renamed r t (get_or args.full i [])
 tokens_for-renamed r name args false (Param t i) =
     ap (argument_for (renamed r t)) (get_or-renamed r args.raw i) ∙ argument_for-renamed r t (get_or args.raw i [])
+tokens_for-renamed r name args lone (Rest t i) =
+    ap (λ n. rest_tokens (nat_lt i n) (renamed r name) (renamed r t) (get_or (renamed_lists r args.raw) i [])) (length-map args.raw (map (renamed_hidden r)))
+    ∙ ap (λ l. rest_tokens (nat_lt i (length args.raw)) (renamed r name) (renamed r t) l) (get_or-renamed r args.raw i)
+    ∙ rest_tokens-renamed r (nat_lt i (length args.raw)) name t (get_or args.raw i [])
 
 part_cost-renamed : (r : Renaming) (name : Token) (args : Arguments) (lone : Bool) (p : Part)
     → part_cost (renamed r name) (renamed_arguments r args) lone (renamed_part r p) ≡ part_cost name args lone p
@@ -178,6 +277,8 @@ part_cost-renamed r name args lone (Plain t) = refl
 part_cost-renamed r name args lone (Paste t) = refl
 part_cost-renamed r name args lone (Param t i) =
     ap length (tokens_for-renamed r name args lone (Param t i)) ∙ length-map (tokens_for name args lone (Param t i)) (renamed_hidden r)
+part_cost-renamed r name args lone (Rest t i) =
+    ap length (tokens_for-renamed r name args lone (Rest t i)) ∙ length-map (tokens_for name args lone (Rest t i)) (renamed_hidden r)
 
 parts_cost-renamed : (r : Renaming) (name : Token) (args : Arguments) (lone : Bool) (ps : List Part)
     → parts_cost (renamed r name) (renamed_arguments r args) lone (map (renamed_part r) ps) ≡ parts_cost name args lone ps
@@ -266,9 +367,6 @@ call_from-renamed o r old new keeps (t ∷ ts) here commas level =
     ∙ call_step-renamed r (role_of commas level t.tok) commas level t ts (call_from ts) (call_from (map (renamed_hidden r) ts))
     (call_from-renamed o r old new keeps ts here.1) (level_after-renamed o r old new keeps t.tok level here.0)
 
-pub commas_of-renamed : (r : Renaming) (m : Definition) → commas_of (renamed_macro r m) ≡ commas_of m
-commas_of-renamed r m = ap (λ n. cond m.variadic (Some n) None) (length-map m.params (renamed r))
-
 arity-renamed : (r : Renaming) (m : Definition) → arity (renamed_macro r m) ≡ arity m
 arity-renamed r m = ap (λ n. n + cond m.variadic 1 0) (length-map m.params (renamed r))
 
@@ -278,24 +376,7 @@ is_blank-renamed r ([] ∷ []) = refl
 is_blank-renamed r ([] ∷ l ∷ ls) = refl
 is_blank-renamed r ((h ∷ hs) ∷ ls) = refl
 
-map-append_one : (r : Renaming) (lists : List (List Hidden)) → renamed_lists r lists ++ [] ∷ [] ≡ renamed_lists r (lists ++ [] ∷ [])
-map-append_one r [] = refl
-map-append_one r (l ∷ ls) = ap (λ v. map (renamed_hidden r) l ∷ v) (map-append_one r ls)
-
-completed-renamed : (r : Renaming) (m : Definition) (lists : List (List Hidden)) → completed (renamed_macro r m) (renamed_lists r lists) ≡ renamed_lists r (completed m lists)
-completed-renamed r m lists =
-    ap (λ n. cond (n == 0 && is_blank (renamed_lists r lists)) [] (cond (m.variadic && length (renamed_lists r lists) == length (map (renamed r) m.params)) (renamed_lists r lists ++ [] ∷ []) (renamed_lists r lists))) (arity-renamed r m)
-    ∙ ap (λ b. cond (arity m == 0 && b) [] (cond (m.variadic && length (renamed_lists r lists) == length (map (renamed r) m.params)) (renamed_lists r lists ++ [] ∷ []) (renamed_lists r lists))) (is_blank-renamed r lists)
-    ∙ ap (λ n. cond (arity m == 0 && is_blank lists) [] (cond (m.variadic && n == length (map (renamed r) m.params)) (renamed_lists r lists ++ [] ∷ []) (renamed_lists r lists))) (length-map lists (map (renamed_hidden r)))
-    ∙ ap (λ n. cond (arity m == 0 && is_blank lists) [] (cond (m.variadic && length lists == n) (renamed_lists r lists ++ [] ∷ []) (renamed_lists r lists))) (length-map m.params (renamed r))
-    ∙ ap (λ l. cond (arity m == 0 && is_blank lists) [] (cond (m.variadic && length lists == length m.params) l (renamed_lists r lists))) (map-append_one r lists)
-    ∙ ap (λ l. cond (arity m == 0 && is_blank lists) [] l) (cond_map (renamed_lists r) (m.variadic && length lists == length m.params) (lists ++ [] ∷ []) lists)
-    ∙ cond_map (renamed_lists r) (arity m == 0 && is_blank lists) [] (cond (m.variadic && length lists == length m.params) (lists ++ [] ∷ []) lists)
-
 pub arguments_of-renamed : (r : Renaming) (m : Definition) (lists : List (List Hidden))
     → arguments_of (renamed_macro r m) (renamed_lists r lists) ≡ option_map (renamed_lists r) (arguments_of m lists)
 arguments_of-renamed r m lists =
-    ap (λ l. cond (length l == arity (renamed_macro r m)) (Some l) None) (completed-renamed r m lists)
-    ∙ ap (λ n. cond (length (renamed_lists r (completed m lists)) == n) (Some (renamed_lists r (completed m lists))) None) (arity-renamed r m)
-    ∙ ap (λ n. cond (n == arity m) (Some (renamed_lists r (completed m lists))) None) (length-map (completed m lists) (map (renamed_hidden r)))
-    ∙ cond_map (option_map (renamed_lists r)) (length (completed m lists) == arity m) (Some (completed m lists)) None
+    arguments_mapped (map (renamed_hidden r)) refl m (renamed_macro r m) (arity-renamed r m) (commas_of-renamed r m) refl lists (is_blank-renamed r lists)

@@ -1,5 +1,5 @@
 -- What an expansion keeps true of its tokens and of what happens in it, and what is made in a replacement.
-use Rattle.std.proofs.Common.{◌≡◌, ℕ, Bool, true, false, List, [], ◌∷◌, ◌++◌, map, get_or, Option, Some, None, Result, Ok, Err, is_some, refl, subst}
+use Rattle.std.proofs.Common.{◌≡◌, ℕ, Bool, true, false, nat_lt, List, [], ◌∷◌, ◌++◌, length, map, get_or, Option, Some, None, Result, Ok, Err, is_some, refl, subst}
 use Rattle.cs_base.specs.Token.{Token}
 use Rattle.line_shape.specs.Signs.{is_name, is_paste}
 use Rattle.macro_body.specs.Below.paste_origin.Pasting.{PasteFault, glue_of}
@@ -8,9 +8,10 @@ use Rattle.macro_body.specs.declared.definitions.Form.TheVariants as form
 use Rattle.macro_body.specs.declared.definitions.Definition.{Definition}
 use Rattle.macro_body.specs.Hides.{Hidden, hidden, in_both, toks_of}
 use Rattle.macro_body.specs.Macro.{parameter_at}
-use Rattle.macro_body.specs.Bodies.{Part, Plain, Param, Quote, Paste, quoted_parameter, param_or_plain, lone_part, quote_or, parts_from, is_operator, pasted_to, chains_in, chains_of}
+use Rattle.macro_body.specs.Bodies.{Part, Plain, Param, Quote, Paste, Rest, quoted_parameter, param_or_plain, lone_part, quote_or, parts_from, is_operator, pasted_to, chains_in, rest_or_chain, chains_of}
+use Rattle.macro_body.proofs.ChainLemmas.{rest_by}
 use Rattle.macro_body.specs.Notes.{Fault, Note, Replaced, Linked, Stringized, Pasted, onward}
-use Rattle.macro_body.specs.Substitution.{Arguments, Made, made, made_both, with_gap, put_in, moved_in, argument_for, is_alone, string_made, operand_made, operands_made, chains_made, token_pasted, pasted_behind, two_pasted, chain_pasted, chains_pasted, result_of, line_number, path_string}
+use Rattle.macro_body.specs.Substitution.{Arguments, Made, made, made_both, with_gap, put_in, moved_in, argument_for, rest_tokens, rest_for, is_alone, string_made, operand_made, operands_made, chains_made, token_pasted, pasted_behind, two_pasted, chain_pasted, chains_pasted, result_of, line_number, path_string}
 use Rattle.macro_expand.specs.Expansion.{Setting, links_name}
 use Rattle.macro_body.proofs.ResultLemmas.{ok_same, err_ok, onward_ok}
 use Rattle.macro_expand.proofs.CallLemmas.{cond_has}
@@ -42,6 +43,7 @@ PartHas P (Plain t) = P t
 PartHas P (Paste t) = P t
 PartHas P (Param t i) = Unit {0}
 PartHas P (Quote t i) = Unit {0}
+PartHas P (Rest t i) = P t
 
 abbrev pub PartsHave : (Token → Type 0) → List Part → Type 0
 PartsHave P [] = Unit {0}
@@ -82,9 +84,13 @@ chains_have P (p ∷ q ∷ ps) h =
     (pasted_to_has P p (chains_in ps) h.0 (chains_have P ps h.1.1))
     ((h.0, tt), chains_have P (q ∷ ps) h.1)
 
+rests_have : (P : Token → Type 0) (m : Definition) (cs : List (List Part)) → ChainsHave P cs → ChainsHave P (map (rest_or_chain m) cs)
+rests_have P m [] h = tt
+rests_have P m (c ∷ cs) h = (rest_by (PartsHave P) m c h.0 (λ t q i is. ((subst (PartsHave P) is h.0).0, tt)), rests_have P m cs h.1)
+
 pub chains_of_have : (P : Token → Type 0) (m : Definition) → AllToks P m.body → ChainsHave P (chains_of m)
 unfolding chains_of
-chains_of_have P m h = chains_have P (parts_from m false m.body) (parts_have P m false m.body h)
+chains_of_have P m h = rests_have P m (chains_in (parts_from m false m.body)) (chains_have P (parts_from m false m.body) (parts_have P m false m.body h))
 
 -- What is made.
 
@@ -132,6 +138,10 @@ module _ (P : Token → Type 0) (M N : Note → Type 0) (set : Setting) (rules :
       subst (Fine P N) (ok_same (made (hidden (put_in name sign.gap s) [] ∷ []) (Stringized toks s ∷ [])) m e)
       ((rules.strings name sign.gap toks s here all is, tt), (rules.stringized toks s all is, tt))
 
+  rest_kept : (b : Bool) (t : Token) (hs : List Hidden) → HasPutIn P name t → AllHidden P hs → AllHidden P (rest_tokens b name t hs)
+  rest_kept true t hs h all = (h t.gap, moved_kept hs all)
+  rest_kept false t hs h all = tt
+
   operand_kept : (args : Arguments) → FineArguments P args → (lone : Bool) (p : Part) → PartHas (HasPutIn P name) p → (m : Made (List Hidden))
       → operand_made name args lone p ≡ Ok m → Fine P N m
   operand_kept args fine lone (Plain t) h m e =
@@ -147,6 +157,9 @@ module _ (P : Token → Type 0) (M N : Note → Type 0) (set : Setting) (rules :
   operand_kept args fine lone (Quote t i) h m e =
       string_kept t (toks_of (get_or args.raw i [])) (hidden_toks P (get_or args.raw i []) (hidden_at P args.raw i fine.raw))
       (stringize_of (toks_of (get_or args.raw i []))) refl m e
+  operand_kept args fine lone (Rest t i) h m e =
+      subst (Fine P N) (ok_same (made (rest_for name t args.raw i) []) m e)
+      (rest_kept (nat_lt i (length args.raw)) t (get_or args.raw i []) h (hidden_at P args.raw i fine.raw), tt)
 
   operands_kept : (args : Arguments) → FineArguments P args → (lone : Bool) (ps : List Part) → PartsHave (HasPutIn P name) ps → (m : Made (List (List Hidden)))
       → operands_made name args lone ps ≡ Ok m → FineLists P N m

@@ -11,12 +11,12 @@ use Rattle.line_shape.specs.Signs.{is_name}
 use Rattle.macro_body.specs.Hides.{Hidden, hides_name, in_both, lacking, with_names, hide_more}
 use Rattle.macro_body.specs.Macro.{Table}
 use Rattle.macro_expand.specs.Calls.{Call, call_from, arguments_of}
-use Rattle.macro_body.specs.Substitution.{with_gap, argument_for}
+use Rattle.macro_body.specs.Substitution.{with_gap, moved_in, argument_for}
 use Rattle.macro_expand.specs.Expansion.{macro_of}
 use Rattle.macro_expand.specs.Renaming.{Renaming, spelled, renamed_hidden, renamed_macro, Occurring, occurs, Keeps}
 use Rattle.expansion_laws.proofs.RenamedLemmas.{AllOccurHidden, cond_map}
 use Rattle.macro_expand.specs.Laws.{AllDefined}
-use Rattle.expansion_laws.proofs.GroundLemmas.{Ground, Good as GoodOn, GoodLists as GoodListsOn, GoodCall as GoodCallOn, Good-occur as on-Good-occur, Good-append as on-Good-append, Good-hide_more as on-Good-hide_more, Good-get_or as on-Good-get_or, Good-with_gap as on-Good-with_gap, Good-argument_for as on-Good-argument_for, good_call as on-good_call, good_arguments as on-good_arguments}
+use Rattle.expansion_laws.proofs.GroundLemmas.{Ground, Good as GoodOn, GoodLists as GoodListsOn, GoodCall as GoodCallOn, Good-occur as on-Good-occur, Good-append as on-Good-append, Good-hide_more as on-Good-hide_more, Good-get_or as on-Good-get_or, Good-with_gap as on-Good-with_gap, Good-moved_in as on-Good-moved_in, Good-argument_for as on-Good-argument_for, good_call as on-good_call, good_arguments as on-good_arguments}
 
 -- A renaming, with what it keeps.
 pub record World : Type 0 where
@@ -53,6 +53,9 @@ Good-get_or w = on-Good-get_or (ground w)
 
 pub Good-with_gap : (w : World) (gap : Bool) (hs : List Hidden) → Good w hs → Good w (with_gap gap hs)
 Good-with_gap w = on-Good-with_gap (ground w)
+
+pub Good-moved_in : (w : World) (hs : List Hidden) → Good w hs → Good w (map moved_in hs)
+Good-moved_in w = on-Good-moved_in (ground w)
 
 pub Good-argument_for : (w : World) (p : Token) (hs : List Hidden) → Good w hs → Good w (argument_for p hs)
 Good-argument_for w = on-Good-argument_for (ground w)

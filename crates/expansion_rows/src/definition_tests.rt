@@ -33,6 +33,8 @@ fn object_like(alloc: Global, toks: &[Tok]) -> Result<Option<Definition>, Memory
             form: Form::Object,
             params: Toks::new(Vec::new(alloc)),
             variadic: false,
+            named: false,
+            gnu: false,
             body: Toks::new(all_shared(alloc, body)?),
         })),
     }

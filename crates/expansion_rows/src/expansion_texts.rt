@@ -83,6 +83,8 @@ fn first_definition(alloc: Global, form: Form, name: &[u8]) -> Result<Definition
         form,
         params: Toks::new(Vec::new(alloc)),
         variadic: false,
+        named: false,
+        gnu: false,
         body: Toks::new(Vec::new(alloc)),
     })
 }

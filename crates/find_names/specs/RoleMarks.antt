@@ -7,6 +7,7 @@ use Rattle.class_marks.specs.declared.roles.Role.{Role}
 use Rattle.class_marks.specs.declared.roles.Role.TheVariants as role
 use Rattle.class_marks.specs.Marks.{AreMarked}
 use Rattle.class_marks.specs.Roles.{names_with}
+use Rattle.class_marks.specs.Touching.{AreReadOnly}
 use Rattle.find_names.specs.declared.role_marks.KindMarks.{KindMarks}
 use Rattle.find_names.specs.declared.role_marks.RoleMarks.{RoleMarks}
 
@@ -33,3 +34,4 @@ pub record AreRoleMarks (a : Analysed) (marks : RoleMarks) : Type 0 where
   pub externals : AreOfRole a role.External marks.externals.items
   pub declared : AreOfRole a role.Declares marks.declared.items
   pub used : AreOfRole a role.Uses marks.used.items
+  pub read_only : AreReadOnly a.value marks.read_only.items

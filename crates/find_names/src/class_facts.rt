@@ -9,7 +9,7 @@ ghost use Rattle.find_names.specs.Satisfying.{HasAttribute, IsCutClass};
 use crate::file_tokens::FileTokens;
 use crate::role_marks::RoleMarks;
 use analysis::Analysis;
-use class_marks::{has_read_only, is_marked};
+use class_marks::{class_number, has_read_only, is_class_marked};
 use cs_base::Part;
 use query_words::Facts;
 use unused_names::is_unused;
@@ -37,18 +37,19 @@ pub(crate) fn facts_of(a: &Analysis, marks: &RoleMarks, tokens: &FileTokens, par
     ensures { AreFacts (HasAttribute a.now.value part) result }
 {
     let kinds = &marks.kinds;
-    let macro_ = is_marked(a, &marks.macros, part);
-    let function = is_marked(a, &kinds.functions, part);
-    let object = is_marked(a, &kinds.objects, part);
-    let typedef = is_marked(a, &kinds.typedefs, part);
-    let parameter = is_marked(a, &kinds.parameters, part);
-    let enumerator = is_marked(a, &kinds.enumerators, part);
-    let tag = is_marked(a, &kinds.tags, part);
-    let member = is_marked(a, &kinds.members, part);
-    let label = is_marked(a, &kinds.labels, part);
-    let external = is_marked(a, &marks.externals, part);
-    let read_only = has_read_only(a, part);
-    let unused = is_unused(a, &marks.declared, &marks.used, part);
+    let class = class_number(a, part);
+    let macro_ = is_class_marked(a, &marks.macros, part, class);
+    let function = is_class_marked(a, &kinds.functions, part, class);
+    let object = is_class_marked(a, &kinds.objects, part, class);
+    let typedef = is_class_marked(a, &kinds.typedefs, part, class);
+    let parameter = is_class_marked(a, &kinds.parameters, part, class);
+    let enumerator = is_class_marked(a, &kinds.enumerators, part, class);
+    let tag = is_class_marked(a, &kinds.tags, part, class);
+    let member = is_class_marked(a, &kinds.members, part, class);
+    let label = is_class_marked(a, &kinds.labels, part, class);
+    let external = is_class_marked(a, &marks.externals, part, class);
+    let read_only = has_read_only(a, &marks.read_only, part);
+    let unused = is_unused(a, &marks.declared, &marks.used, &marks.read_only, part);
     let cut = is_cut(a, tokens, part);
     Facts {
         macro_,

@@ -3,7 +3,7 @@ ghost use Rattle.std.specs.Prelude.{IfOk};
 ghost use Rattle.find_names.specs.RoleMarks.{AreKindMarks, AreRoleMarks};
 
 use analysis::{Analysis, EntityKind};
-use class_marks::{Role, marks_of};
+use class_marks::{Role, marks_of, read_only_files};
 use cs_base::Memory;
 use std::alloc::Global;
 
@@ -44,7 +44,7 @@ fn kind_marks(alloc: Global, a: &Analysis) -> Result<KindMarks, Memory>
 }
 
 /// The same, and marks on the classes with the name of a macro that is defined, with an occurrence of an entity with
-/// external linkage, with a name that declares, and with one that uses.
+/// external linkage, with a name that declares, and with one that uses; and which files are read-only.
 #[derive(Drop)]
 pub(crate) struct RoleMarks {
     pub(crate) kinds: KindMarks,
@@ -52,6 +52,7 @@ pub(crate) struct RoleMarks {
     pub(crate) externals: Vec<bool>,
     pub(crate) declared: Vec<bool>,
     pub(crate) used: Vec<bool>,
+    pub(crate) read_only: Vec<bool>,
 }
 
 /// Those of all names of a workspace.
@@ -63,11 +64,13 @@ pub(crate) fn role_marks(alloc: Global, a: &Analysis) -> Result<RoleMarks, Memor
     let externals = marks_of(alloc, a, Role::External)?;
     let declared = marks_of(alloc, a, Role::Declares)?;
     let used = marks_of(alloc, a, Role::Uses)?;
+    let read_only = read_only_files(alloc, a)?;
     Ok(RoleMarks {
         kinds,
         macros,
         externals,
         declared,
         used,
+        read_only,
     })
 }

@@ -1,4 +1,5 @@
 mod TokenLemmas
+mod AloneLemmas
 mod WalkLemmas
 mod BoundLemmas
 mod StandardLemmas

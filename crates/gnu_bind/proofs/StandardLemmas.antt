@@ -1,38 +1,42 @@
 -- The walk over a text that uses nothing of GNU C is that of the standards.
-use Rattle.std.proofs.Common.{ℕ, ◌+◌, ◌≡◌, Bool, true, false, ◌&&◌, ◌||◌, not, if◌then◌else◌, ◌==◌, ◌%◌, List, Option, None, Some, length, refl, sym, ap, ◌∙◌}
-use Rattle.std.specs.Option.{option_map_or}
+use Rattle.std.proofs.Common.{ℕ, ◌+◌, ◌≡◌, Bool, true, false, ◌&&◌, ◌||◌, not, if◌then◌else◌, ◌==◌, ◌%◌, List, [], Option, None, Some, length, refl, sym, ap, ◌∙◌}
+use Rattle.std.specs.Option.{option_map_or, option_or}
 use Rattle.std.proofs.lemmas.Bool.{false≢true, and_parts}
 use Rattle.cs_base.specs.Token.{Token}
+use Rattle.cs_base.specs.declared.ws_units.Standard.TheVariants.{C99, C11, Gnu99, Gnu11}
 use Rattle.c99_tree.specs.Tree.{Forest, none, token, node}
 use Rattle.c99_tree.specs.declared.production.Label.{Label}
 use Rattle.c99_tree.specs.declared.production.Production.{Production}
-use Rattle.c99_tree.specs.declared.production.Production.TheVariants.{SuRest, Members, Enumerators, InitItem, Cond, Unary, Primary, Post, Args, TypeName, Main, Block, BlockItem, Statement, AutoDecl, AttrItem, Operand, MemberPath, AsmPart}
+use Rattle.c99_tree.specs.declared.production.Production.TheVariants.{External, FunBody, Declaration, Declarator, SuRest, Members, Enumerators, InitItem, Cond, Unary, Primary, Post, Args, TypeName, Main, Mod, Block, BlockItem, Statement, AutoDecl, Attr, AttrItem, Operand, MemberPath, AsmPart}
 use Rattle.c99_tree.specs.contracts.production.ProductionPartialEq.TheImpl.{ghosts}
 use Rattle.c_types.specs.Types.{CType, arithmetic, nothing, unknown, array, pointer, adjusted}
-use Rattle.c_types.specs.Trees.{is_node, has_node}
+use Rattle.c_types.specs.Trees.{is_node, is_list, has_node, last_token, first_list, is_one, is_lone_main, is_bare}
+use Rattle.c_types.specs.Shapes.{is_end}
 use Rattle.c_types.specs.Declarations.{Facts}
 use Rattle.c_types.specs.declared.frames.Frame.{Frame}
-use Rattle.name_chains.specs.Frames.{State, at_first}
-use Rattle.name_chains.specs.Entering.{found_in, frame_in, entered}
+use Rattle.scope_bind.specs.Below.name_chains.Frames.{State, at_first}
+use Rattle.scope_bind.specs.Below.name_chains.Entering.{found_in, alone_in, frame_in, entered}
 use Rattle.scope_bind.specs.declared.roles.Role.{Role}
 use Rattle.scope_bind.specs.declared.roles.Role.TheVariants.{Plain, Primary as APrimary, Label as ALabel, Jump as AJump, Designated}
 use Rattle.scope_bind.specs.Roles.{role_if, role_of}
 use Rattle.scope_bind.specs.Ordinary.{named_facts, named_type}
 use Rattle.scope_bind.specs.Expressions.{found_after, of_unary, of_main}
-use Rattle.scope_bind.specs.Walk.{passed_as, passed, facts_after, frame_after, left, walked as standard_walked}
+use Rattle.scope_bind.specs.Walk.{passed_as, passed, facts_after, kept_after, frame_after, left, walked as standard_walked}
 use Rattle.scope_bind.specs.Bound.{bound_after, binding_of}
 use Rattle.gnu_bind.specs.declared.senses.Special.{Special}
 use Rattle.gnu_bind.specs.declared.senses.Special.TheVariants.{Usual as usual, Fetch as fetch, Choice as choice, Value as value}
 use Rattle.gnu_bind.specs.declared.senses.Sense.{Sense}
-use Rattle.gnu_bind.specs.Senses.{omits_second, declares_labels, special_if, is_fetch_by, callee_in, special_in, is_homeless, is_labelling, sense_in, usual_sense}
+use Rattle.gnu_bind.specs.Senses.{omits_second, declares_labels, special_if, is_fetch_by, callee_in, special_in, is_outside, is_homeless, is_labelling, sense_in, usual_sense}
 use Rattle.gnu_bind.specs.declared.roles.GnuRole.{GnuRole}
-use Rattle.gnu_bind.specs.declared.roles.GnuRole.TheVariants.{Standard, Name, BlockLabel as NewBlockLabel, Label as NewLabel, Jump as NewJump, Brace}
+use Rattle.gnu_bind.specs.declared.roles.GnuRole.TheVariants.{Standard, Name, BlockLabel as NewBlockLabel, Label as NewLabel, Jump as NewJump, Address as NewAddress, Brace}
 use Rattle.gnu_bind.specs.Roles.{gnu_if, is_brace, role_in}
 use Rattle.gnu_bind.specs.Names.{names_function, is_word, is_unseen}
+use Rattle.gnu_bind.specs.OpenLists.{open_list, open_after}
 use Rattle.gnu_bind.specs.Types.{is_extended, type_after}
+use Rattle.gnu_bind.specs.Alone.{is_attribute, has_other, is_one_specifier, is_lone_specifier, ends_in, is_lone, stands_alone}
 use Rattle.gnu_bind.specs.Walk.{type_in, has_braces, begun, read_as, facts_ended, ended, walked}
 use Rattle.gnu_bind.specs.Bound.{gnu_binding_of}
-use Rattle.gnu_bind.specs.Standards.{HasNoWord, is_shared, is_token_place, is_child, is_old, is_form, is_filled, is_standard, StandardTextsBindAlike}
+use Rattle.gnu_bind.specs.Standards.{HasNoWord, is_shared, is_token_place, is_child, is_old, has_some, is_unextended, has_block, is_form, is_filled, is_standard, StandardTextsBindAlike, StandardsBindAlike}
 
 not_true : (b : Bool) → not b ≡ true → b ≡ false
 not_true true e = absurd (false≢true e)
@@ -53,6 +57,97 @@ or_right false b e = e
 usual_either : (c : Bool) → special_if c usual ≡ usual
 usual_either true = refl
 usual_either false = refl
+
+-- ---- Specifiers alone
+
+not_attr : (p q : Production) → is_child p q ≡ true → ghosts.eq q Attr ≡ false
+not_attr p Attr c = absurd (false≢true c)
+not_attr p _ c = refl
+
+-- what is said of a node among the children, and of what stands behind it
+child_parts : (l m : Label) (k first : ℕ) (under rest : Forest) → is_standard l k (node m first under rest) ≡ true
+    → (is_child l.production m.production ≡ true) × ((is_standard m 0 under ≡ true) × (is_standard l (k + 1) rest ≡ true))
+child_parts l m k first under rest e =
+    let around : Bool = is_shared l.production && is_old l.production l.alternative in
+    let inside : Bool = is_old m.production m.alternative && (is_form m.production under && is_filled m under) in
+    let all = and_parts (around && (is_child l.production m.production && inside)) (is_standard m 0 under && is_standard l (k + 1) rest) e in
+    let here = and_parts around (is_child l.production m.production && inside) all.0 in
+    ((and_parts (is_child l.production m.production) inside here.1).0, and_parts (is_standard m 0 under) (is_standard l (k + 1) rest) all.1)
+
+behind_token : (l : Label) (k i : ℕ) (rest : Forest) → is_standard l k (token i rest) ≡ true → is_standard l (k + 1) rest ≡ true
+behind_token l k i rest e = (and_parts (is_token_place l.production l.alternative k) (is_standard l (k + 1) rest) e).1
+
+no_attr : (l : Label) (k : ℕ) (f : Forest) → is_standard l k f ≡ true → has_node Attr f ≡ false
+no_attr l k none e = refl
+no_attr l k (token i rest) e = no_attr l (k + 1) rest (behind_token l k i rest e)
+no_attr l k (node m first under rest) e =
+    let h = child_parts l m k first under rest e in
+    ap (λ b. b || has_node Attr rest) (not_attr l.production m.production h.0) ∙ no_attr l (k + 1) rest h.1.1
+
+no_attribute : (l m : Label) (k first : ℕ) (under rest : Forest) → is_standard l k (node m first under rest) ≡ true → is_attribute m under ≡ false
+no_attribute l m k first under rest e =
+    ap (λ b. is_node m Mod && b) (no_attr m 0 under (child_parts l m k first under rest e).1.0) ∙ and_false (is_node m Mod)
+
+one_same : (l : Label) (k : ℕ) (f : Forest) → is_standard l k f ≡ true → is_one_specifier f ≡ is_one f
+one_same l k none e = refl
+one_same l k (token i rest) e = refl
+one_same l k (node m first under none) e = refl
+one_same l k (node m first under (token i rest)) e = refl
+one_same l k (node m first under (node o second below rest)) e =
+    ap (λ b. not (not b || has_other rest)) (no_attribute l o (k + 1) second below rest (child_parts l m k first under (node o second below rest) e).1.1)
+
+lone_same : (l : Label) (k : ℕ) (f : Forest) → is_standard l k f ≡ true → is_lone_specifier f ≡ is_lone_main f
+lone_same l k none e = refl
+lone_same l k (token i rest) e = refl
+lone_same l k (node m first under rest) e =
+    ap (λ b. if b then is_lone_specifier rest else is_end rest && is_one_specifier under) (no_attribute l m k first under rest e)
+    ∙ (ap (λ b. is_end rest && b) (one_same m 0 under (child_parts l m k first under rest e).1.0) ∙ by rest)
+  where
+    by : (r : Forest) → (is_end r && is_one under) ≡ is_lone_main (node m first under r)
+    by none = refl
+    by (token i r) = refl
+    by (node o second below r) = refl
+
+none_lone : (f : Forest) → has_some f ≡ false → is_lone f ≡ false
+none_lone none e = refl
+none_lone (token i rest) e = none_lone rest e
+none_lone (node l first under rest) e = absurd (false≢true (sym e))
+
+bare_same : (l : Label) (k : ℕ) (f : Forest) → is_unextended f ≡ true → is_standard l k f ≡ true → is_lone f ≡ is_bare f
+bare_same l k none u e = refl
+bare_same l k (token i rest) u e = none_lone rest (not_true (has_some rest) u)
+bare_same l k (node m first specs rest) u e =
+    ap (λ b. ends_in rest && b) (lone_same m 0 specs (child_parts l m k first specs rest e).1.0) ∙ by rest
+  where
+    by : (r : Forest) → (ends_in r && is_lone_main specs) ≡ is_bare (node m first specs r)
+    by none = refl
+    by (token i r) = refl
+    by (node o second below none) = refl
+    by (node o second below (token i r)) = refl
+    by (node o second below (node p third under r)) = refl
+
+alone_same : (p : Production) (l : Label) (under : Forest) (f : Frame) → is_form p under ≡ true → is_standard l 0 under ≡ true
+    → stands_alone p under f ≡ alone_in p under f
+alone_same External l under f e w = bare_same l 0 under e w
+alone_same Declaration l under f e w = bare_same l 0 under e w
+alone_same _ l under f e w = refl
+
+-- ---- The list with whose names a body begins
+
+open_same : (f : Forest) → has_block f ≡ false → open_list f ≡ first_list f
+open_same none e = refl
+open_same (token i rest) e = open_same rest e
+open_same (node l first under rest) e =
+    let more = or_right (is_node l Block) (has_block under || has_block rest) e in
+    let here : Option ℕ = Some (last_token under 0) in
+    ap (λ b. if is_list l then here else option_or (if b then None else open_list under) (open_list rest)) (or_left (is_node l Block) (has_block under || has_block rest) e)
+    ∙ (ap (λ o. if is_list l then here else option_or o (open_list rest)) (open_same under (or_left (has_block under) (has_block rest) more))
+    ∙ ap (λ o. if is_list l then here else option_or (first_list under) o) (open_same rest (or_right (has_block under) (has_block rest) more)))
+
+kept_same : (p : Production) (n : ℕ) (f : Frame) (under : Forest) → is_form p under ≡ true
+    → open_after f (record { production = p; alternative = n }) under ≡ kept_after [] f (record { production = p; alternative = n }) under
+kept_same Declarator n f under e = open_same under (not_true (has_block under) e)
+kept_same _ n f under e = refl
 
 module _ (toks : List Token) (h : HasNoWord toks) where
   -- ---- A token is read
@@ -102,7 +197,7 @@ module _ (toks : List Token) (h : HasNoWord toks) where
   read_same Primary a k i t e = name_same (a == 1) i t
   read_same SuRest a k i t e = brace_same (is_brace a k) (role_of SuRest a k) i t e
   read_same InitItem a k i t e = designated_same ((a == 2) && (k == 0)) i t e
-  read_same Unary a k i t e = other_same ((a == 4) && (k == 1)) NewJump i t e
+  read_same Unary a k i t e = other_same ((a == 4) && (k == 1)) NewAddress i t e
   read_same MemberPath a k i t e = absurd (false≢true e)
   read_same BlockItem a k i t e = other_same ((a == 7) && (k % 2 == 1)) NewBlockLabel i t e
   read_same Statement a k i t e = label_same ((a == 1) && (k == 0)) ((a == 10) && (k == 1)) i t
@@ -128,11 +223,12 @@ module _ (toks : List Token) (h : HasNoWord toks) where
   special_same _ under f c e = refl
 
   at_home : (p : Production) (f : Frame) → is_child f.label.production p ≡ true → is_homeless toks p f ≡ false
-  at_home Block f c = ap (λ b. b && (f.listing || not (option_map_or (λ b. true) f.body false))) (not_true (is_node f.label Primary) c)
+  at_home Block f c = ap (λ b. b && is_outside f) (not_true (is_node f.label Primary) c)
   at_home _ f c = refl
 
   no_labels : (p : Production) (under : Forest) → is_form p under ≡ true → is_labelling toks p under ≡ false
   no_labels Block under e = not_true (declares_labels under) e
+  no_labels FunBody under e = not_true (declares_labels under) e
   no_labels _ under e = refl
 
   abbrev sense_so : Special → Bool → Bool → Sense
@@ -163,18 +259,20 @@ module _ (toks : List Token) (h : HasNoWord toks) where
   filled false true false w = refl
   filled false false false w = refl
 
-  abbrev begun_so : Label → ℕ → Forest → State → Bool → CType → State
-  begun_so l first under t has_body found = record {
+  abbrev begun_so : Label → ℕ → Forest → State → Bool → Bool → CType → State
+  begun_so l first under t alone has_body found = record {
     facts = (entered toks l first under t).facts;
-    frame = record (frame_in toks l under t.frame t.facts) { has_body = has_body; found = found };
+    frame = record (frame_in toks l under t.frame t.facts) { alone = alone; has_body = has_body; found = found };
   }
 
   begun_same : (l : Label) (first : ℕ) (under : Forest) (t : State) → is_child t.frame.label.production l.production ≡ true → is_old l.production l.alternative ≡ true
-      → is_filled l under ≡ true → begun toks l first under usual_sense t ≡ entered toks l first under t
-  begun_same l first under t c e w =
-      ap (λ b. begun_so l first under t b (type_in toks l.production l usual t.frame t.facts))
+      → is_form l.production under ≡ true → is_standard l 0 under ≡ true → is_filled l under ≡ true
+      → begun toks l first under usual_sense t ≡ entered toks l first under t
+  begun_same l first under t c e form all w =
+      ap (λ b. begun_so l first under t b ((has_node Members under || has_node Enumerators under) || has_braces l under) (type_in toks l.production l usual t.frame t.facts)) (alone_same l.production l under t.frame form all)
+      ∙ (ap (λ b. begun_so l first under t (alone_in l.production under t.frame) b (type_in toks l.production l usual t.frame t.facts))
       (filled (has_node Members under) (has_node Enumerators under) (has_braces l under) w)
-      ∙ ap (begun_so l first under t (has_node Members under || has_node Enumerators under)) (type_same l.production t.frame.label.production l t.frame t.facts c e)
+      ∙ ap (begun_so l first under t (alone_in l.production under t.frame) (has_node Members under || has_node Enumerators under)) (type_same l.production t.frame.label.production l t.frame t.facts c e))
 
   -- ---- A node is left
 
@@ -219,16 +317,20 @@ module _ (toks : List Token) (h : HasNoWord toks) where
   after_same Statement f l under child s e c = refl
   after_same _ f l under child s e c = refl
 
-  abbrev ended_so : Label → Forest → State → State → Facts → CType → State
-  ended_so l under t t' facts found = record { facts = facts; frame = record (frame_after toks t.frame l under t'.frame) { found = found } }
+  abbrev ended_so : Label → Forest → State → State → Option ℕ → Facts → CType → State
+  ended_so l under t t' kept facts found = record { facts = facts; frame = record (frame_after toks t.frame l under t'.frame) { kept = kept; found = found } }
 
   ended_same : (l : Label) (first : ℕ) (under : Forest) (t t' : State) → is_shared t.frame.label.production ≡ true → is_old t.frame.label.production t.frame.label.alternative ≡ true
-      → is_child t.frame.label.production l.production ≡ true → ended toks usual_sense l first under t t' ≡ left toks l first under t t'
-  ended_same l first under t t' s e c =
-      ap (λ x. ended_so l under t t' x (type_after toks t.frame.label.production usual t.frame l under t'.frame))
+      → is_child t.frame.label.production l.production ≡ true → is_form l.production under ≡ true
+      → ended toks usual_sense l first under t t' ≡ left toks l first under t t'
+  ended_same l first under t t' s e c form =
+      let kept : Option ℕ = kept_after [] t.frame l under in
+      ap (λ k. ended_so l under t t' k (facts_ended toks l.production first t.frame l under t'.frame t'.facts) (type_after toks t.frame.label.production usual t.frame l under t'.frame))
+      (kept_same l.production l.alternative t.frame under form)
+      ∙ (ap (λ x. ended_so l under t t' kept x (type_after toks t.frame.label.production usual t.frame l under t'.frame))
       (facts_same l.production t.frame.label.production first t.frame l under t'.frame t'.facts c)
-      ∙ ap (ended_so l under t t' (facts_after toks l.production first t.frame l under t'.frame.body t'.facts))
-      (after_same t.frame.label.production t.frame l under t'.frame s e c)
+      ∙ ap (ended_so l under t t' kept (facts_after toks l.production first t.frame l under t'.frame.body t'.facts))
+      (after_same t.frame.label.production t.frame l under t'.frame s e c))
 
   -- ---- The walk
 
@@ -254,11 +356,17 @@ module _ (toks : List Token) (h : HasNoWord toks) where
       let t' : State = standard_walked toks under (entered toks m first under t) in
       ap (λ s. walked toks usual_sense rest (ended toks usual_sense m first under t (walked toks s under (begun toks m first under s t))))
       (sense_same m.production under t.frame of_m.0 form.0)
-      ∙ (ap (λ b. walked toks usual_sense rest (ended toks usual_sense m first under t (walked toks usual_sense under b))) (begun_same m first under t of_m.0 old.0 form.1)
+      ∙ (ap (λ b. walked toks usual_sense rest (ended toks usual_sense m first under t (walked toks usual_sense under b))) (begun_same m first under t of_m.0 old.0 form.0 below.0 form.1)
       ∙ (ap (λ b. walked toks usual_sense rest (ended toks usual_sense m first under t b)) (walked_same under (entered toks m first under t) below.0)
-      ∙ (ap (walked toks usual_sense rest) (ended_same m first under t t' of_l.0 of_l.1 of_m.0)
+      ∙ (ap (walked toks usual_sense rest) (ended_same m first under t t' of_l.0 of_l.1 of_m.0 form.0)
       ∙ walked_same rest (left toks m first under t t') below.1)))
 
 pub standard_texts : StandardTextsBindAlike
 unfolding gnu_binding_of binding_of
 standard_texts toks tree h e = ap (λ (s : State). bound_after tree.under s.facts) (walked_same toks h tree.under (at_first (length toks)) e)
+
+pub by_standards : StandardsBindAlike
+by_standards C99 toks tree = refl
+by_standards C11 toks tree = refl
+by_standards Gnu99 toks tree = refl
+by_standards Gnu11 toks tree = refl

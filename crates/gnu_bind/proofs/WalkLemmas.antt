@@ -6,8 +6,8 @@ use Rattle.c99_tree.specs.declared.production.Label.{Label}
 use Rattle.c_types.specs.declared.frames.Frame.{Frame}
 use Rattle.c_types.specs.Declarations.{Facts}
 use Rattle.scope_bind.specs.Known.{Known, known}
-use Rattle.name_chains.specs.Frames.{State, state}
-use Rattle.name_chains.specs.Entering.{facts_in}
+use Rattle.scope_bind.specs.Below.name_chains.Frames.{State, state}
+use Rattle.scope_bind.specs.Below.name_chains.Entering.{facts_in}
 use Rattle.gnu_bind.specs.declared.senses.Sense.{Sense}
 use Rattle.gnu_bind.specs.Senses.{sense_in}
 use Rattle.gnu_bind.specs.Walk.{read, frame_begun, begun, facts_ended, frame_ended, ended, walked}

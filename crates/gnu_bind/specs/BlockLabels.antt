@@ -69,6 +69,6 @@ module _ (toks : List Token) where
   jumped_by None s i facts = function_jump s i facts
   jumped_by (Some d) s i facts = with_use i d.entity facts
 
-  -- a `goto`, the address of a label, and a label of an `asm goto`
+  -- a `goto`, a label of an `asm goto`, and the address of a label, which need not stand in a body
   abbrev pub jumped : Sense → ℕ → Facts → Facts
   jumped s i facts = jumped_by (block_label_at s i facts) s i facts

@@ -5,6 +5,10 @@ pub mod Roles
 pub mod Names
 pub mod BlockLabels
 pub mod Types
+pub mod Alone
+pub mod OpenLists
 pub mod Walk
 pub mod Bound
 pub mod Standards
+-- Words of the crates below, passed on.
+pub mod Below

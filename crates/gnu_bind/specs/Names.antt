@@ -6,7 +6,7 @@ use Rattle.c_types.specs.Types.{CType, arithmetic, unknown, array}
 use Rattle.c_types.specs.declared.declarations.Space.TheVariants.{Ordinary as ordinary}
 use Rattle.c_types.specs.Declarations.{spelling_at, Facts, visible}
 use Rattle.c_types.specs.declared.frames.Frame.{Frame}
-use Rattle.name_chains.specs.Members.{member_used, member_type}
+use Rattle.scope_bind.specs.Below.name_chains.Members.{member_used, member_type}
 use Rattle.scope_bind.specs.Ordinary.{named_facts, named_type}
 use Rattle.cs_base.specs.Reserved.{is_built_in, is_function_word}
 use Rattle.gnu_bind.specs.Words.{is_path_sign}

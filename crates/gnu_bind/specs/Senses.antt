@@ -6,7 +6,7 @@ use Rattle.cs_base.specs.Token.{Token}
 use Rattle.c99_tree.specs.Tree.{Forest, none, token, node, Node}
 use Rattle.c99_tree.specs.declared.production.Label.{Label}
 use Rattle.c99_tree.specs.declared.production.Production.{Production}
-use Rattle.c99_tree.specs.declared.production.Production.TheVariants.{Cond, Unary, Primary, Post, Args, Block, BlockItem, Statement, AttrItem}
+use Rattle.c99_tree.specs.declared.production.Production.TheVariants.{FunBody, Cond, Unary, Primary, Post, Args, Block, BlockItem, Statement, AttrItem}
 use Rattle.c_types.specs.declared.frames.Frame.{Frame}
 use Rattle.c_types.specs.Trees.{is_node, is_at, first_token}
 use Rattle.c_types.specs.Shapes.{first_node, second_node, lone_token}
@@ -89,6 +89,14 @@ declares_labels none = false
 declares_labels (token i rest) = declares_labels rest
 declares_labels (node l first under rest) = is_at l BlockItem 7 || declares_labels rest
 
+-- outside the body of a function, or among the declarations before it (6.9.1 paragraph 6)
+abbrev pub is_outside : Frame → Bool
+is_outside f = f.listing || not (option_map_or (λ b. true) f.body false)
+
+-- what asks for a label there is in no function
+abbrev pub away : Sense → Frame → Sense
+away s f = record s { homeless = s.homeless || is_outside f }
+
 module _ (toks : List Token) where
   abbrev pub is_fetch_by : Option ℕ → Bool
   is_fetch_by None = false
@@ -109,14 +117,14 @@ module _ (toks : List Token) where
   special_in Statement under f s = special_if (is_value s && is_node f.label BlockItem) value
   special_in _ under f s = usual
 
-  -- A block in an expression outside the body of a function, or among the declarations before it (6.9.1 paragraph 6):
-  -- in it no label is a function's.
+  -- a block in an expression that is outside: in it no label is a function's
   abbrev pub is_homeless : Production → Frame → Bool
-  is_homeless Block f = is_node f.label Primary && (f.listing || not (option_map_or (λ b. true) f.body false))
+  is_homeless Block f = is_node f.label Primary && is_outside f
   is_homeless _ f = false
 
   abbrev pub is_labelling : Production → Forest → Bool
   is_labelling Block under = declares_labels under
+  is_labelling FunBody under = declares_labels under
   is_labelling _ under = false
 
   -- .. and whether it stands in such a block, or in one that declares labels

@@ -1,21 +1,23 @@
 -- Texts that use nothing of GNU C, as far as binding asks.
-use Rattle.std.specs.Prelude.{ℕ, ◌+◌, ◌==◌, ◌%◌, ◌≡◌, Bool, true, false, ◌&&◌, ◌||◌, not, List}
+use Rattle.std.specs.Prelude.{ℕ, ◌+◌, ◌==◌, ◌%◌, ◌≡◌, Bool, true, false, ◌&&◌, ◌||◌, not, if◌then◌else◌, List}
 use Rattle.cs_base.specs.Token.{Token}
 use Rattle.c99_tree.specs.Tree.{Forest, none, token, node, Node}
 use Rattle.c99_tree.specs.declared.production.Label.{Label}
 use Rattle.c99_tree.specs.declared.production.Production.{Production}
-use Rattle.c99_tree.specs.declared.production.Production.TheVariants.{SuRest, Members, InitItem, Cond, Unary, Primary, TypeName, Main, Block, BlockItem, AutoDecl, Attr, AttrItem, AttrWord, AsmName, Operand, Association, MemberPath, AsmPart, AsmOperand}
+use Rattle.c99_tree.specs.declared.production.Production.TheVariants.{External, FunBody, Declaration, Declarator, SuRest, Members, InitItem, Cond, Unary, Primary, TypeName, Main, Block, BlockItem, AutoDecl, Attr, AttrItem, AttrWord, AsmName, Operand, Association, MemberPath, AsmPart, AsmOperand}
 use Rattle.c99_tree.specs.contracts.production.ProductionPartialEq.TheImpl.{ghosts}
-use Rattle.c_types.specs.Trees.{has_node}
+use Rattle.c_types.specs.Trees.{is_node, has_node}
 use Rattle.c_types.specs.Declarations.{spelling_at}
-use Rattle.name_chains.specs.Frames.{outermost}
+use Rattle.scope_bind.specs.Below.name_chains.Frames.{outermost}
 use Rattle.scope_bind.specs.Bound.{binding_of}
 use Rattle.cs_base.specs.Reserved.{is_built_in, is_function_word}
+use Rattle.cs_base.specs.Units.{is_gnu}
+use Rattle.cs_base.specs.declared.ws_units.Standard.{Standard}
 use Rattle.gnu_bind.specs.Words.{is_fetch, is_extension}
 use Rattle.gnu_bind.specs.Senses.{omits_second, declares_labels}
 use Rattle.gnu_bind.specs.Roles.{is_brace}
 use Rattle.gnu_bind.specs.Walk.{has_braces}
-use Rattle.gnu_bind.specs.Bound.{gnu_binding_of}
+use Rattle.gnu_bind.specs.Bound.{gnu_binding_of, binding_by}
 
 -- no token is spelled as such a word
 pub record HasNoWord (toks : List Token) : Type 0 where
@@ -58,10 +60,32 @@ is_old Primary a = not ((a == 6) || (a == 9))
 is_old Unary a = not (a == 4)
 is_old p a = true
 
+-- a node stands among some children
+abbrev pub has_some : Forest → Bool
+has_some none = false
+has_some (token i rest) = has_some rest
+has_some (node l first under rest) = true
+
+-- no token stands in front of a node
+abbrev pub is_unextended : Forest → Bool
+is_unextended none = true
+is_unextended (node l first under rest) = true
+is_unextended (token i rest) = not (has_some rest)
+
+-- a block stands below
+abbrev pub has_block : Forest → Bool
+has_block none = false
+has_block (token i rest) = has_block rest
+has_block (node l first under rest) = is_node l Block || (has_block under || has_block rest)
+
 -- a node has a form of the standards
 abbrev pub is_form : Production → Forest → Bool
+is_form External under = is_unextended under
+is_form Declaration under = is_unextended under
+is_form Declarator under = not (has_block under)
 is_form Cond under = not (omits_second under)
 is_form Block under = not (declares_labels under)
+is_form FunBody under = not (declares_labels under)
 is_form p under = true
 
 -- a structure or union with braces has members
@@ -80,3 +104,8 @@ is_standard l k (node m first under rest) =
 abbrev pub StandardTextsBindAlike : Type 0
 StandardTextsBindAlike =
     (toks : List Token) (tree : Node) → HasNoWord toks → is_standard (outermost 0).label 0 tree.under ≡ true → gnu_binding_of toks tree ≡ binding_of toks tree
+
+-- a text binds by an edition of ISO/IEC 9899 as by all of them, and by each standard of GNU C as by GNU C
+abbrev pub StandardsBindAlike : Type 0
+StandardsBindAlike =
+    (s : Standard) (toks : List Token) (tree : Node) → binding_by s toks tree ≡ (if is_gnu s then gnu_binding_of toks tree else binding_of toks tree)

@@ -13,20 +13,22 @@ use Rattle.c_types.specs.declared.entity.EntityKind.TheVariants.{Object}
 use Rattle.c_types.specs.declared.entity.Linkage.TheVariants.{External, Absent}
 use Rattle.c_types.specs.declared.frames.Frame.{Frame}
 use Rattle.c_types.specs.declared.frames.Position.{Position}
-use Rattle.name_chains.specs.Frames.{State}
-use Rattle.name_chains.specs.Entering.{facts_in, found_in, frame_in}
+use Rattle.scope_bind.specs.Below.name_chains.Frames.{State}
+use Rattle.scope_bind.specs.Below.name_chains.Entering.{facts_in, found_in, frame_in}
 use Rattle.scope_bind.specs.declared.ordinary.Declared.{Declared}
 use Rattle.scope_bind.specs.Ordinary.{declared}
 use Rattle.scope_bind.specs.Walk.{facts_at, found_at, position_at, facts_after, frame_after}
 use Rattle.gnu_bind.specs.declared.senses.Special.{Special}
 use Rattle.gnu_bind.specs.declared.senses.Sense.{Sense}
-use Rattle.gnu_bind.specs.Senses.{sense_in, is_value, begins_with_two}
+use Rattle.gnu_bind.specs.Senses.{sense_in, away, is_value, begins_with_two}
 use Rattle.gnu_bind.specs.declared.roles.GnuRole.{GnuRole}
-use Rattle.gnu_bind.specs.declared.roles.GnuRole.TheVariants.{Standard as standard, Name as name, BlockLabel as block_label, Label as label, Jump as jump, Path as path, Brace as brace}
+use Rattle.gnu_bind.specs.declared.roles.GnuRole.TheVariants.{Standard as standard, Name as name, BlockLabel as block_label, Label as label, Jump as jump, Address as address, Path as path, Brace as brace}
 use Rattle.gnu_bind.specs.Roles.{role_in}
 use Rattle.gnu_bind.specs.Names.{name_read, name_type, path_read, path_type}
 use Rattle.gnu_bind.specs.BlockLabels.{with_block_label, labelled, jumped}
 use Rattle.gnu_bind.specs.Types.{type_after}
+use Rattle.gnu_bind.specs.Alone.{stands_alone}
+use Rattle.gnu_bind.specs.OpenLists.{open_after}
 
 -- ---- A node is entered
 
@@ -72,6 +74,7 @@ module _ (toks : List Token) where
   -- the frame of a node of this sense
   abbrev pub frame_begun : Label → Forest → Special → Frame → Facts → Frame
   frame_begun l under s f facts = record (frame_in toks l under f facts) {
+    alone = stands_alone l.production under f;
     has_body = (frame_in toks l under f facts).has_body || has_braces l under;
     found = type_in l.production l s f facts;
   }
@@ -90,6 +93,7 @@ module _ (toks : List Token) where
   facts_by block_label s i f facts = with_block_label toks f.scope i facts
   facts_by label s i f facts = labelled toks s f i facts
   facts_by jump s i f facts = jumped toks s i facts
+  facts_by address s i f facts = jumped toks (away s f) i facts
   facts_by path s i f facts = path_read toks f i facts
   facts_by brace s i f facts = with_complete (number_in f.found) facts
 
@@ -129,6 +133,7 @@ module _ (toks : List Token) where
   -- the frame around, once a child is left
   abbrev pub frame_ended : Special → Frame → Label → Forest → Frame → Frame
   frame_ended s f l under child = record (frame_after toks f l under child) {
+    kept = open_after f l under;
     found = type_after toks f.label.production s f l under child;
   }
 

@@ -1,16 +1,16 @@
-// The binding of a translation unit of GNU C.
+// The binding of a translation unit of GNU C, and that of one by its standard.
 ghost use Rattle.std.specs.Prelude.{◌≡◌, IfOk, OnOk, ◌++◌};
 ghost use Rattle.cs_base.specs.Answer.{Gives};
 ghost use Rattle.c_types.specs.Lists.{lists_in, calls_in, bare_in};
 ghost use Rattle.c_types.specs.Faults.{fault_of};
 ghost use Rattle.scope_bind.specs.Known.{known};
-ghost use Rattle.gnu_bind.specs.Bound.{facts_of, gnu_binding_of};
+ghost use Rattle.gnu_bind.specs.Bound.{facts_of, gnu_binding_of, binding_by};
 
 use crate::senses::usual_sense;
 use crate::walking::walk;
 use c_types::{BindRefusal, Shown};
 use c99_tree::Tree;
-use cs_base::{Memory, Tok};
+use cs_base::{Memory, Standard, Tok};
 use scope_bind::{Bound, Facts, bound_unless, count_of, outermost};
 use std::alloc::Global;
 
@@ -44,4 +44,19 @@ pub fn bind(alloc: Global, toks: &[Tok], tree: &Tree) -> Result<Bound, BindRefus
     let mut shown = Shown::new(alloc);
     let facts = facts_of(alloc, toks, tree, &mut shown)?;
     bound_unless(alloc, tree, &facts, shown)
+}
+
+/// What each identifier of a translation unit denotes by its standard, given the tree of its tokens, or the first fault.
+pub fn bind_by(
+    alloc: Global,
+    toks: &[Tok],
+    tree: &Tree,
+    standard: Standard,
+) -> Result<Bound, BindRefusal>
+    ensures answer { Gives (λ b. b) fault_of result (binding_by standard toks.now tree.now) }
+{
+    match standard {
+        Standard::C99 | Standard::C11 => scope_bind::bind(alloc, toks, tree),
+        Standard::Gnu99 | Standard::Gnu11 => bind(alloc, toks, tree),
+    }
 }

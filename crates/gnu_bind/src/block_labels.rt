@@ -113,7 +113,7 @@ fn jump_in_function(facts: &mut Facts<'_>, sense: Sense, i: u32) -> Result<(), M
     }
 }
 
-/// A label that is jumped to, or whose address is taken.
+/// A label that is jumped to, or whose address is taken in a body.
 pub(crate) fn jump(facts: &mut Facts<'_>, sense: Sense, i: u32) -> Result<(), Memory>
     ensures { OnOk result (facts.new ≡ known facts.old.toks (jumped facts.old.toks sense i facts.old.facts)) }
 {

@@ -2,8 +2,9 @@
 ghost use Rattle.std.specs.Prelude.{◌≡◌, ◌==◌, if◌then◌else◌, IfOk};
 ghost use Rattle.c_types.specs.Types.{arithmetic, nothing, pointer};
 ghost use Rattle.gnu_bind.specs.Walk.{has_braces, value_type, type_in, frame_begun};
-ghost use Rattle.name_chains.specs.Entering.{found_in};
+ghost use Rattle.scope_bind.specs.Below.name_chains.Entering.{found_in};
 
+use crate::alone::stands_alone;
 use crate::senses::{Special, begins_with_two, is_value};
 use c_types::{Base, CType, Frame, is_node};
 use c99_tree::{Label, Production, Tree};
@@ -90,6 +91,7 @@ pub(crate) fn frame_begun(
         child.found.copied()?,
     )?;
     child.found = found;
+    child.alone = stands_alone(tree, f, child.alone);
     child.has_body = child.has_body || has_braces(tree);
     Ok(child)
 }

@@ -5,14 +5,12 @@ ghost use Rattle.c_types.specs.Trees.{first_token};
 ghost use Rattle.c_types.specs.Shapes.{leading_token};
 ghost use Rattle.c_types.specs.declared.entity.Linkage.TheVariants.{External as AnExternal, Absent as NoLinkage};
 ghost use Rattle.scope_bind.specs.Known.{known};
-ghost use Rattle.scope_bind.specs.Walk.{kept_after};
 ghost use Rattle.gnu_bind.specs.Walk.{auto_name, auto_declared, with_auto, facts_ended, frame_ended};
 
+use crate::open_lists::open_after;
 use crate::senses::Special;
 use crate::types::type_after;
-use c_types::{
-    CType, EntityKind, Frame, Linkage, Part, child_at, first_list, is_node, last_token, words_of,
-};
+use c_types::{CType, EntityKind, Frame, Linkage, Part, child_at, is_node, last_token, words_of};
 use c99_tree::{Production, Tree};
 use cs_base::{Memory, Tok};
 use scope_bind::{Declared, Facts, position_after};
@@ -102,16 +100,6 @@ pub(crate) fn leave(
     }
 }
 
-fn kept_after(f: &Frame, tree: &Tree) -> Option<u32>
-    ensures { result ≡ kept_after [] f.now tree.now.label tree.now.under }
-{
-    if is_node(tree.label(), Production::Declarator) {
-        first_list(tree)
-    } else {
-        f.kept
-    }
-}
-
 /// A child is left, in a node of this sense: the frame around goes on with what it has found.
 #[inline(never)]
 pub(crate) fn go_on(
@@ -130,7 +118,7 @@ pub(crate) fn go_on(
     };
     let found = type_after(alloc, toks, special, f, tree, child)?;
     let position = position_after(f, tree, child)?;
-    let kept = kept_after(f, tree);
+    let kept = open_after(f, tree);
     if is_node(tree.label(), Production::Specs) {
         f.base = child.found.copied()?;
         f.words = words_of(tree);

@@ -5,17 +5,20 @@
 //! C leaves as the standards have it. Its own are attributes and built-in functions, whose names denote nothing; blocks
 //! in expressions, labels of blocks, addresses of labels and `asm goto`; `typeof`, `__auto_type`, `_Generic`, paths to
 //! members, structures without members, and what a built-in function gives, whose type is unknown. Units of C99 and C11
-//! are bound by `scope_bind` alone. This crate knows neither how a tree is read nor macros, files or classes.
-//! Declarations, names and types want memory. Read `specs/Senses.antt`, `Names.antt`, `BlockLabels.antt` and
-//! `Types.antt`, then `Walk.antt`, then `walking.rt`.
+//! are bound by `scope_bind` alone; `bind_by` asks the standard of a unit, and equals `binding_by`. This crate knows
+//! neither how a tree is read nor macros, files or classes.
+//! Declarations, names and types want memory. Read `specs/Senses.antt`, `Names.antt`, `BlockLabels.antt`,
+//! `Alone.antt` and `Types.antt`, then `Walk.antt`, then `walking.rt`.
 #![tactic(auto)]
 
+mod alone;
 mod binding;
 mod block_labels;
 mod entering;
 mod laws;
 mod leaving;
 mod names;
+mod open_lists;
 mod reading;
 mod roles;
 mod senses;
@@ -23,5 +26,8 @@ mod types;
 mod walking;
 mod words;
 
-pub use binding::bind;
-pub use laws::standard_texts_bind_alike;
+pub use binding::{bind, bind_by};
+pub use laws::{standard_texts_bind_alike, standards_bind_alike};
+pub use roles::GnuRole;
+pub use scope_bind::{BindRefusal, Bound, EntityKind, Linkage, List, Name, Range};
+pub use senses::{Sense, Special};

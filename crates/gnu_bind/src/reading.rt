@@ -2,13 +2,13 @@
 ghost use Rattle.std.specs.Prelude.{◌≡◌, IfOk, OnOk};
 ghost use Rattle.c_types.specs.Tags.{number_in};
 ghost use Rattle.scope_bind.specs.Known.{known};
-ghost use Rattle.name_chains.specs.Frames.{state};
+ghost use Rattle.scope_bind.specs.Below.name_chains.Frames.{state};
 ghost use Rattle.gnu_bind.specs.Walk.{facts_by, type_by, place_by, read};
 
 use crate::block_labels::{declare_block_label, jump, label};
 use crate::names::{name_type, path_type, read_name, read_path};
 use crate::roles::{GnuRole, role_in};
-use crate::senses::Sense;
+use crate::senses::{Sense, away};
 use c_types::{Base, CType, Frame, Position};
 use cs_base::Memory;
 use scope_bind::Facts;
@@ -43,6 +43,7 @@ fn facts_by(
         GnuRole::BlockLabel => declare_block_label(facts, alloc, f.scope, i),
         GnuRole::Label => label(facts, alloc, sense, f, i),
         GnuRole::Jump => jump(facts, sense, i),
+        GnuRole::Address => jump(facts, away(sense, f), i),
         GnuRole::Path => read_path(facts, f, i),
         GnuRole::Brace => facts.complete(number_in(&f.found)),
     }
@@ -66,6 +67,7 @@ fn type_by(
         GnuRole::BlockLabel => f.found.copied(),
         GnuRole::Label => f.found.copied(),
         GnuRole::Jump => f.found.copied(),
+        GnuRole::Address => f.found.copied(),
         GnuRole::Brace => f.found.copied(),
     }
 }

@@ -7,15 +7,16 @@ use c99_tree::Production;
 use scope_bind::{Role, role_of};
 
 /// What a token stands for: what it does in the standards; an identifier in an expression; a label that a block
-/// declares, a label, and a label that is jumped to; a token of a path to a member; and the `}` of a structure or union
-/// without members.
+/// declares, a label, a label that is jumped to, and one whose address is taken; a token of a path to a member; and the
+/// `}` of a structure or union without members.
 #[derive(Clone, Copy, Debug, PartialEq, Eq)]
-pub(crate) enum GnuRole {
+pub enum GnuRole {
     Standard(Role),
     Name,
     BlockLabel,
     Label,
     Jump,
+    Address,
     Path,
     Brace,
 }
@@ -74,7 +75,7 @@ pub(crate) fn role_in(production: Production, alternative: u8, nth: u32) -> GnuR
         Production::Primary => gnu_if(alternative == 1, GnuRole::Name),
         Production::SuRest => body_role(alternative, nth),
         Production::InitItem => item_role(alternative, nth),
-        Production::Unary => gnu_if(alternative == 4 && nth == 1, GnuRole::Jump),
+        Production::Unary => gnu_if(alternative == 4 && nth == 1, GnuRole::Address),
         Production::MemberPath => GnuRole::Path,
         Production::BlockItem => gnu_if(alternative == 7 && nth % 2 == 1, GnuRole::BlockLabel),
         Production::Statement => statement_role(alternative, nth),

@@ -7,7 +7,7 @@ ghost use Rattle.c_types.specs.Children.{from_child};
 ghost use Rattle.c_types.specs.Declarations.{spelling_at};
 ghost use Rattle.gnu_bind.specs.Words.{is_word_attribute};
 ghost use Rattle.gnu_bind.specs.declared.senses.Special.TheVariants.{Open as AnOpen, Word as AWord};
-ghost use Rattle.gnu_bind.specs.Senses.{third_or, second_or, name_behind, attribute_name, callee_by, callee_of, callee_in, begins_with_token, begins_with_two, omits_second, is_value, is_fetching, is_choosing, special_if, declares_labels, is_fetch_by, special_in, is_homeless, is_labelling, sense_in, usual_sense};
+ghost use Rattle.gnu_bind.specs.Senses.{third_or, second_or, name_behind, attribute_name, callee_by, callee_of, callee_in, begins_with_token, begins_with_two, omits_second, is_value, is_fetching, is_choosing, special_if, declares_labels, is_fetch_by, special_in, is_outside, away, is_homeless, is_labelling, sense_in, usual_sense};
 
 use crate::words::{is_fetch, is_word_attribute, spelling};
 use c_types::{
@@ -22,7 +22,7 @@ use cs_base::Tok;
 /// without its second operand. `Value`: it is a block in an expression, or gives the value of one. The node around has
 /// the same.
 #[derive(Clone, Copy, Debug, PartialEq, Eq)]
-pub(crate) enum Special {
+pub enum Special {
     Usual,
     Open,
     Word,
@@ -34,7 +34,7 @@ pub(crate) enum Special {
 /// What is special about a node; whether it stands in a block in an expression outside the body of a function; and
 /// whether in a block that declares labels.
 #[derive(Clone, Copy, Debug, PartialEq, Eq)]
-pub(crate) struct Sense {
+pub struct Sense {
     pub special: Special,
     pub homeless: bool,
     pub labels: bool,
@@ -278,13 +278,29 @@ fn is_inside(body: Option<Body>) -> bool
     }
 }
 
+// Outside the body of a function, or among the declarations before it (6.9.1 paragraph 6).
+fn is_outside(f: &Frame) -> bool
+    ensures { result ≡ is_outside f.now }
+{
+    f.listing || !is_inside(f.body)
+}
+
+/// The sense in which a label is asked for where it need not stand in a block.
+pub(crate) fn away(sense: Sense, f: &Frame) -> Sense
+    ensures { result ≡ away sense f.now }
+{
+    Sense {
+        special: sense.special,
+        homeless: sense.homeless || is_outside(f),
+        labels: sense.labels,
+    }
+}
+
 fn is_homeless(production: Production, f: &Frame) -> bool
     ensures { result ≡ is_homeless [] production f.now }
 {
     match production {
-        Production::Block => {
-            is_node(f.label, Production::Primary) && (f.listing || !is_inside(f.body))
-        }
+        Production::Block => { is_node(f.label, Production::Primary) && is_outside(f) }
         _ => false,
     }
 }
@@ -294,6 +310,7 @@ fn is_labelling(tree: &Tree) -> bool
 {
     match tree.label().production {
         Production::Block => declares_labels(tree),
+        Production::FunBody => declares_labels(tree),
         _ => false,
     }
 }

@@ -1,7 +1,7 @@
 // The walk over the tree of a unit of GNU C, in the order of its tokens.
 ghost use Rattle.std.specs.Prelude.{◌≡◌, ◌+◌, ◌++◌, OnOk};
 ghost use Rattle.c_types.specs.Children.{from_child};
-ghost use Rattle.name_chains.specs.Frames.{state};
+ghost use Rattle.scope_bind.specs.Below.name_chains.Frames.{state};
 ghost use Rattle.c_types.specs.Lists.{calls_in, lists_in, bare_in};
 ghost use Rattle.gnu_bind.specs.Senses.{sense_in};
 ghost use Rattle.gnu_bind.specs.Walk.{read, begun, ended, walked};

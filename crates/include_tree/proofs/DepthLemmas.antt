@@ -1,17 +1,19 @@
 -- How many files may be open inside one another is a limit: more of it changes nothing where it suffices.
-use Rattle.std.proofs.Common.{◌≡◌, ℕ, zero, suc, ◌+◌, Bool, true, false, cond, List, [], ◌∷◌, None, Some, Ok, Err, refl, sym, ap, subst, arith, drop}
+use Rattle.std.proofs.Common.{◌≡◌, ℕ, zero, suc, ◌+◌, Bool, true, false, cond, List, [], ◌∷◌, Option, None, Some, Ok, Err, refl, sym, ap, subst, arith, drop}
 use Rattle.cs_base.specs.declared.positions.Pos.{Pos}
 use Rattle.cs_base.specs.Token.{Token}
 use Rattle.source_files.specs.Below.line_shape.declared.items.ItemKind.{ItemKind}
 use Rattle.source_files.specs.Below.line_shape.declared.items.ItemKind.TheVariants as kind
+use Rattle.source_files.specs.Below.line_shape.declared.items.GnuLine.TheVariants as gnu
 use Rattle.source_files.specs.Files.{SourceFile}
-use Rattle.unit_steps.specs.Notes.{Note, Reaches, Entered, Exited}
+use Rattle.unit_steps.specs.Notes.{Note, Reaches, Entered, Exited, ReadOnce}
 use Rattle.unit_steps.specs.State.{Context, State, Did, did, Outcome, only, noted, onward}
 use Rattle.include_tree.specs.Sections.{Section, are_processed, Turn, Opens, GoesOn, GoesLast, Ends, Stays, turn_of}
-use Rattle.source_files.specs.Search.{Header}
-use Rattle.include_tree.specs.Including.{open_header, Process, Inner, entered, included, include_of}
-use Rattle.unit_steps.specs.IncludeNames.{header_named}
-use Rattle.include_tree.specs.Walk.{ItemText, items_in, processed, stepped, turned, item_step, file_end, walk, file_items}
+use Rattle.source_files.specs.Search.{Header, behind_of}
+use Rattle.unit_steps.specs.Directives.{is_read_once}
+use Rattle.include_tree.specs.Including.{open_header, Process, Inner, left_to, entered, unless_once, included, include_of, include_next_of}
+use Rattle.unit_steps.specs.IncludeNames.{header_named, next_named}
+use Rattle.include_tree.specs.Walk.{ItemText, items_in, processed, stepped, turned, is_foreign, foreign_line, item_step, file_end, walk, file_items}
 
 -- the second outcome is the first one, where that has no fault
 abbrev pub Confirms : {A : Type 0} → Outcome A → Outcome A → Type 0
@@ -37,6 +39,10 @@ confirms_cond : {A : Type 0} (b : Bool) (m n other : Outcome A) → Confirms m n
 confirms_cond true m n other h = h
 confirms_cond false m n other h = confirms_refl other
 
+confirms_unless : {A : Type 0} (b : Bool) (x y z : Outcome A) → Confirms y z → Confirms (cond b x y) (cond b x z)
+confirms_unless true x y z h = confirms_refl x
+confirms_unless false x y z h = h
+
 -- the same of the items of included files
 abbrev pub ProcessConfirms : Process → Process → Type 0
 ProcessConfirms p q = (file : SourceFile) (s : State) → Confirms (p file s) (q file s)
@@ -46,25 +52,43 @@ InnerConfirms None q = Unit {0}
 InnerConfirms (Some p) None = ⊥
 InnerConfirms (Some p) (Some q) = ProcessConfirms p q
 
-entered_confirms : (p q : Process) → ProcessConfirms p q → (at : Pos) (file : SourceFile) (s : State) → Confirms (entered p at file s) (entered q at file s)
-entered_confirms p q h at file s =
-    confirms_noted (Entered at file.number s.before ∷ []) _ _
-    (confirms_onward (p file s) (q file s) (λ toks t. Ok (did toks (Exited at file.number t.before ∷ []) t)) (λ toks t. Ok (did toks (Exited at file.number t.before ∷ []) t))
-    (h file s) (λ toks t. refl))
+confirms_left : {A : Type 0} (behind : Option ℕ) (m n : Outcome A) → Confirms m n → Confirms (left_to behind m) (left_to behind n)
+confirms_left behind (Ok d) n h = ap (left_to behind) h
+confirms_left behind (Err found) n h = tt
 
-included_confirms : (ctx : Context) (p q : Inner) → InnerConfirms p q → (file : SourceFile) (at : Pos) (h : Header) (s : State)
-    → Confirms (included ctx p file at h s) (included ctx q file at h s)
-included_confirms ctx None q c file at h s = tt
-included_confirms ctx (Some p) None c file at h s = absurd c
-included_confirms ctx (Some p) (Some q) c file at h s =
-    confirms_onward (open_header ctx file at h s) (open_header ctx file at h s) (entered p at) (entered q at) (confirms_refl (open_header ctx file at h s))
-    (λ f t. entered_confirms p q c at f t)
+entered_confirms : (p q : Process) → ProcessConfirms p q → (at : Pos) (behind : Option ℕ) (file : SourceFile) (s : State)
+    → Confirms (entered p at behind file s) (entered q at behind file s)
+entered_confirms p q h at behind file s =
+    let inside : State = record s { behind = behind } in
+    let exit : List Token → State → Outcome (List Token) = λ toks t. Ok (did toks (Exited at file.number t.before ∷ []) t) in
+    confirms_noted (Entered at file.number s.before ∷ []) _ _
+    (confirms_left s.behind (onward (p file inside) exit) (onward (q file inside) exit)
+    (confirms_onward (p file inside) (q file inside) exit exit (h file inside) (λ toks t. refl)))
+
+passes_confirms : (p q : Process) → ProcessConfirms p q → (at : Pos) → ProcessConfirms (unless_once at p) (unless_once at q)
+passes_confirms p q h at file s =
+    confirms_unless (is_read_once file.number s) (Ok (did [] (ReadOnce true at file.number s.before ∷ []) s)) (p file s) (q file s) (h file s)
+
+included_confirms : (ctx : Context) (p q : Inner) → InnerConfirms p q → (file : SourceFile) (at : Pos) (next : Bool) (h : Header) (s : State)
+    → Confirms (included ctx p file at next h s) (included ctx q file at next h s)
+included_confirms ctx None q c file at next h s = tt
+included_confirms ctx (Some p) None c file at next h s = absurd c
+included_confirms ctx (Some p) (Some q) c file at next h s =
+    let place_of : SourceFile → Option ℕ = λ f. behind_of next h s.behind file.path ctx.unit f.path in
+    confirms_onward (open_header ctx file at next h s) (open_header ctx file at next h s) (λ f t. entered (unless_once at p) at (place_of f) f t) (λ f t. entered (unless_once at q) at (place_of f) f t)
+    (confirms_refl (open_header ctx file at next h s)) (λ f t. entered_confirms (unless_once at p) (unless_once at q) (passes_confirms p q c at) at (place_of f) f t)
 
 include_confirms : (ctx : Context) (p q : Inner) → InnerConfirms p q → (file : SourceFile) (at : Pos) (toks : List Token) (s : State)
     → Confirms (include_of ctx p file at toks s) (include_of ctx q file at toks s)
 include_confirms ctx p q c file at toks s =
-    confirms_onward (header_named file at (drop 2 toks) s) (header_named file at (drop 2 toks) s) (included ctx p file at) (included ctx q file at)
-    (confirms_refl (header_named file at (drop 2 toks) s)) (λ h t. included_confirms ctx p q c file at h t)
+    confirms_onward (header_named file at (drop 2 toks) s) (header_named file at (drop 2 toks) s) (included ctx p file at false) (included ctx q file at false)
+    (confirms_refl (header_named file at (drop 2 toks) s)) (λ h t. included_confirms ctx p q c file at false h t)
+
+include_next_confirms : (ctx : Context) (p q : Inner) → InnerConfirms p q → (file : SourceFile) (at : Pos) (toks : List Token) (s : State)
+    → Confirms (include_next_of ctx p file at toks s) (include_next_of ctx q file at toks s)
+include_next_confirms ctx p q c file at toks s =
+    confirms_onward (next_named file at (drop 2 toks) s) (next_named file at (drop 2 toks) s) (included ctx p file at true) (included ctx q file at true)
+    (confirms_refl (next_named file at (drop 2 toks) s)) (λ h t. included_confirms ctx p q c file at true h t)
 
 processed_confirms : (ctx : Context) (p q : Inner) → InnerConfirms p q → (file : SourceFile) (k : ItemKind) (at : Pos) (toks : List Token) (s : State)
     → Confirms (processed ctx p file k at toks s) (processed ctx q file k at toks s)
@@ -83,6 +107,10 @@ processed_confirms ctx p q c file kind.Error at toks s = confirms_refl (processe
 processed_confirms ctx p q c file kind.Pragma at toks s = confirms_refl (processed ctx p file kind.Pragma at toks s)
 processed_confirms ctx p q c file kind.Empty at toks s = confirms_refl (processed ctx p file kind.Empty at toks s)
 processed_confirms ctx p q c file (kind.Bad cause place nests) at toks s = tt
+processed_confirms ctx p q c file (kind.Gnu gnu.IncludeNext) at toks s = include_next_confirms ctx p q c file at toks s
+processed_confirms ctx p q c file (kind.Gnu gnu.Message) at toks s = confirms_refl (processed ctx p file (kind.Gnu gnu.Message) at toks s)
+processed_confirms ctx p q c file (kind.Gnu gnu.Elifdef) at toks s = confirms_refl (processed ctx p file (kind.Gnu gnu.Elifdef) at toks s)
+processed_confirms ctx p q c file (kind.Gnu gnu.Elifndef) at toks s = confirms_refl (processed ctx p file (kind.Gnu gnu.Elifndef) at toks s)
 
 turned_confirms : (ctx : Context) (p q : Inner) → InnerConfirms p q → (file : SourceFile) (k : ℕ) (i : ItemText) (sections : List Section) (s : State) (turn : Turn)
     → Confirms (turned ctx p file k i sections s turn) (turned ctx q file k i sections s turn)
@@ -102,7 +130,8 @@ unfolding walk
 walk_confirms ctx p q c file k [] sections s = confirms_refl (file_end file sections s)
 walk_confirms ctx p q c file k (i ∷ items) sections s =
     confirms_onward (item_step ctx p file k i sections s) (item_step ctx q file k i sections s) _ _
-    (turned_confirms ctx p q c file k i sections s (turn_of i.kind))
+    (confirms_unless (is_foreign ctx.unit.standard i.kind) (foreign_line file i sections s) (turned ctx p file k i sections s (turn_of i.kind)) (turned ctx q file k i sections s (turn_of i.kind))
+    (turned_confirms ctx p q c file k i sections s (turn_of i.kind)))
     (λ d t. confirms_onward (walk ctx p file (k + 1) items d.sections t) (walk ctx q file (k + 1) items d.sections t) _ _
     (walk_confirms ctx p q c file (k + 1) items d.sections t) (λ toks u. refl))
 

@@ -1,5 +1,5 @@
 -- Opened files as steps give them.
-use Rattle.std.proofs.Common.{◌≡◌, ℕ, List, Option, None, Some, Result, Ok, Err, refl, ap, subst}
+use Rattle.std.proofs.Common.{◌≡◌, ℕ, Bool, List, Option, None, Some, Result, Ok, Err, refl, sym, ap, subst}
 use Rattle.std.specs.Prelude.{IfSome}
 use Rattle.cs_base.specs.declared.positions.Place.{Place}
 use Rattle.cs_base.specs.declared.positions.Pos.{Pos}
@@ -38,20 +38,22 @@ searched-step source unit earlier file at s found (Some path) =
     other-table s found.table (opening the_limits file_text (place_in file at) path found.table)
 
 -- the file of a header, by what the search for its paths opens
-pub header-file : (r : Result ℕ PreFault) (t v : Table) (source : Source) (unit : UnitValue) (earlier : ℕ) (file : SourceFile) (at : Pos) (h : Header) (s : State) → s.table ≡ t
-    → GivesOpening r (opening_found (place_in file at) (search source (candidates_of h file.path unit) t)) v
-    → GivesFile r (open_header (unit_context source unit earlier) file at h s) v s
-header-file r t v source unit earlier file at h s is gives =
-    rw (searched-step source unit earlier file at s (search source (candidates_of h file.path unit) s.table) (search source (candidates_of h file.path unit) s.table).path)
+pub header-file : (r : Result ℕ PreFault) (t v : Table) (source : Source) (unit : UnitValue) (earlier : ℕ) (file : SourceFile) (at : Pos) (next : Bool) (h : Header) (s : State) → s.table ≡ t
+    → GivesOpening r (opening_found (place_in file at) (search source (candidates_of next h s.behind file.path unit) t)) v
+    → GivesFile r (open_header (unit_context source unit earlier) file at next h s) v s
+header-file r t v source unit earlier file at next h s is gives =
+    let paths = candidates_of next h s.behind file.path unit in
+    rw (searched-step source unit earlier file at s (search source paths s.table) (search source paths s.table).path)
     (gives-file r _ v s (rw (← is) at gives))
 
 -- the file of a header, by what an include line asks for
-pub header-asked : (r : Result ℕ PreFault) (t v : Table) (source : Source) (unit : UnitValue) (earlier : ℕ) (o : Option SourceFile) (at : Pos) (h : Header) (paths : List (List ℕ)) (place : Place)
-    → IfSome o (λ file. paths ≡ candidates_of h file.path unit) → IfSome o (λ file. place ≡ place_in file at)
+pub header-asked : (r : Result ℕ PreFault) (t v : Table) (source : Source) (unit : UnitValue) (earlier : ℕ) (o : Option SourceFile) (at : Pos) (next : Bool) (h : Header) (behind : Option ℕ) (paths : List (List ℕ)) (place : Place)
+    → IfSome o (λ file. paths ≡ candidates_of next h behind file.path unit) → IfSome o (λ file. place ≡ place_in file at)
     → GivesOpening r (opening_found place (search source paths t)) v
-    → IfSome o (λ file. (s : State) → s.table ≡ t → GivesFile r (open_header (unit_context source unit earlier) file at h s) v s)
-header-asked r t v source unit earlier None at h paths place asks stands gives = tt
-header-asked r t v source unit earlier (Some file) at h paths place asks stands gives = λ s is.
-    header-file r t v source unit earlier file at h s is
+    → IfSome o (λ file. (s : State) → s.table ≡ t → s.behind ≡ behind → GivesFile r (open_header (unit_context source unit earlier) file at next h s) v s)
+header-asked r t v source unit earlier None at next h behind paths place asks stands gives = tt
+header-asked r t v source unit earlier (Some file) at next h behind paths place asks stands gives = λ s is begins.
+    header-file r t v source unit earlier file at next h s is
+    (subst (λ (b : Option ℕ). GivesOpening r (opening_found (place_in file at) (search source (candidates_of next h b file.path unit) t)) v) (sym begins)
     (subst (λ (ps : List (List ℕ)). GivesOpening r (opening_found (place_in file at) (search source ps t)) v) asks
-    (subst (λ (p : Place). GivesOpening r (opening_found p (search source paths t)) v) stands gives))
+    (subst (λ (p : Place). GivesOpening r (opening_found p (search source paths t)) v) stands gives)))

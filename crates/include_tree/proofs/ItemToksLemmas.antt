@@ -1,7 +1,7 @@
 -- The items of a kept file, each with its tokens.
 use Rattle.std.proofs.Common.{◌≡◌, ℕ, zero, suc, ◌-◌, ◌<◌, ◌≤◌, ◌&&◌, Bool, true, false, List, [], ◌∷◌, length, take, drop, get_or, Option, Some, None, Result, Ok, Err, IsTrue, refl, sym, ◌∙◌, ap, subst, inl, inr, arith}
 use Rattle.std.specs.Prelude.{All, IfSome, slice_get, slice_range}
-use Rattle.std.specs.List.{list_all, list_any}
+use Rattle.std.specs.List.{list_all}
 use Rattle.std.specs.Option.{option_map}
 use Rattle.std.proofs.lemmas.Bool.{cases_Bool, and_parts}
 use Rattle.std.proofs.lemmas.Option.{slice_get-map, slice_get_read, slice_get_past, same_Some}
@@ -10,8 +10,8 @@ use Rattle.cs_base.specs.Token.{Token}
 use Rattle.source_files.specs.Below.lexer.FileText.{TextValue, LexFault, file_text}
 use Rattle.source_files.specs.Below.line_shape.declared.items.Item.{Item}
 use Rattle.source_files.specs.Below.line_shape.declared.items.ItemKind.TheVariants.{Define}
-use Rattle.source_files.specs.Below.line_shape.Signs.{is_close, is_ellipsis}
-use Rattle.source_files.specs.Below.line_shape.MacroLine.{MacroParts, macro, is_function_like, is_parameter_list, function_macro, params_in, before_close, behind_close, macro_of}
+use Rattle.source_files.specs.Below.line_shape.Signs.{is_close}
+use Rattle.source_files.specs.Below.line_shape.MacroLine.{MacroParts, macro, is_function_like, is_parameter_list, function_macro, has_named_rest, has_plain_rest, params_in, before_close, behind_close, macro_of}
 use Rattle.source_files.specs.Below.line_shape.Directives.{is_run}
 use Rattle.source_files.specs.Below.line_shape.Items.{line_kind, items_of}
 use Rattle.source_files.proofs.Below.line_shape.CoverLemmas.{Follow-items_of, Follow-within}
@@ -61,7 +61,7 @@ function_macro-body : (p : Token → Bool) (list : List Token) (o : Option (List
 function_macro-body p list None parts e h = absurd (cc)
 function_macro-body p list (Some body) parts e h = elim (cases_Bool (is_parameter_list list)) [
   | inl fit ↦
-      subst (λ (m : MacroParts). list_all p m.body ≡ true) (same_Some (macro true (params_in list) (list_any is_ellipsis list) body) parts (rw fit at e)) (h body refl)
+      subst (λ (m : MacroParts). list_all p m.body ≡ true) (same_Some (macro true (params_in list) (has_plain_rest list) (has_named_rest list) body) parts (rw fit at e)) (h body refl)
   | inr bad ↦ absurd (let none : ◌≡◌ {A = Option MacroParts} None (Some parts) = rw bad at e in cc)
 ]
 
@@ -71,7 +71,7 @@ macro_of-body p ts parts e h = elim (cases_Bool (is_function_like ts)) [
   | inl function ↦
       function_macro-body p (before_close (drop 1 ts)) (behind_close (drop 1 ts)) parts (rw function at e)
       (λ body is. behind_close-all p (drop 1 ts) body is (list_all-drop p 1 ts h))
-  | inr object ↦ subst (λ (m : MacroParts). list_all p m.body ≡ true) (same_Some (macro false [] false ts) parts (rw object at e)) h
+  | inr object ↦ subst (λ (m : MacroParts). list_all p m.body ≡ true) (same_Some (macro false [] false false ts) parts (rw object at e)) h
 ]
 
 -- the parts of a definition

@@ -36,10 +36,6 @@ leads_as ctx s t m n e h = subst (λ (k : ℕ). Leads ctx s k t) e h
 pub leads_then : (ctx : Context) (s t u : State) (n : ℕ) → Leads ctx s 0 t → Leads ctx t n u → Leads ctx s n u
 leads_then ctx s t u n h k = leads_as ctx s u (0 + n) n (omega arith) (leads_trans ctx s t u 0 n h k)
 
--- one behind another
-pub leads_behind : (ctx : Context) (s t u : State) (n : ℕ) → Leads ctx s n t → Leads ctx t 0 u → Leads ctx s n u
-leads_behind ctx s t u n h k = leads_as ctx s u (n + 0) n (omega arith) (leads_trans ctx s t u n 0 h k)
-
 -- a state with the same table, work and count
 leads_cond : (ctx : Context) (s : State) (b : Bool) (names : List Token) → Leads ctx s 0 (cond b s (record s { names = names }))
 leads_cond ctx s true names = leads_refl ctx s

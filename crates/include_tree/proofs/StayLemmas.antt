@@ -4,6 +4,7 @@ use Rattle.std.proofs.Common.{◌≡◌, ℕ, ◌+◌, nat_lt, nat_le, Bool, tru
 use Rattle.std.proofs.lemmas.Bool.{cases_Bool, and_parts}
 use Rattle.std.specs.List.{list_any, list_all, filter}
 use Rattle.std.specs.Str.{is_utf8}
+use Rattle.cs_base.specs.declared.causes.Cause.TheVariants.{BadDirective}
 use Rattle.cs_base.specs.declared.causes.Cause.TheVariants.{DefinedFromMacro, TooManyFiles, TooManyBytes}
 use Rattle.cs_base.specs.declared.positions.Place.{Place}
 use Rattle.cs_base.specs.declared.positions.Pos.{Pos}
@@ -15,18 +16,18 @@ use Rattle.unit_steps.specs.Below.cond_eval.Evaluation.{condition}
 use Rattle.unit_steps.specs.Below.macro_body.declared.definitions.Definition.{Definition}
 use Rattle.unit_steps.specs.Below.macro_body.Notes as expansion
 use Rattle.unit_steps.specs.Below.macro_expand.Expansion.{expansion}
-use Rattle.unit_steps.specs.Below.macro_body.Defining.{defined_by}
+use Rattle.unit_steps.specs.Below.macro_body.Defining.{defined_by, in_gnu}
 use Rattle.source_files.specs.Limits.{Limits}
 use Rattle.source_files.specs.Files.{Source, Found, Lines, Absent, Unopened, Opened, Made, Table, SourceFile, found_at, opened, asked, number_of, files_opened}
 use Rattle.source_files.specs.Faults.{Fault, fault, fault_at}
-use Rattle.unit_steps.specs.State.{Context, State, only, onward}
+use Rattle.unit_steps.specs.State.{Context, State, only, onward, did}
 use Rattle.source_files.specs.Opening.{Reader, Opening, file_read, readable, first_opened, are_too_many, opened_as, opening}
 use Rattle.source_files.specs.Search.{Searched, can_be_asked, search, search_on}
 use Rattle.include_tree.specs.OpeningStep.{with_opened, open_file}
 use Rattle.unit_steps.specs.Names.{with_name, spelled_in}
 use Rattle.unit_steps.specs.Expanding.{expanded_as, expanded_in, most_toks, put_out, run_of}
 use Rattle.unit_steps.specs.Conditions.{Piece, Plain, Asks, pieces_from, answered, left_over, valued, judged, asked_pieces, holds, is_defined}
-use Rattle.unit_steps.specs.Directives.{defined_as, define_of, undefined_as, undef_of, operand_in, asks_name}
+use Rattle.unit_steps.specs.Directives.{defined_as, define_of, undefined_as, undef_of, operand_in, asks_name, define_notes, after_define, may_define}
 use Rattle.include_tree.specs.Laws.{IfDone}
 use Rattle.include_tree.specs.PseudoFiles.{is_pseudo}
 use Rattle.include_tree.proofs.OutcomeLemmas.{onward_done, test_done}
@@ -73,14 +74,21 @@ run_stays J ctx file toks s h =
 
 -- ---- definitions and tests
 
-defined_as_stays : (J : Table → Type 0) (file : SourceFile) (at : Pos) (s : State) (o : Option Definition) → J s.table
-    → IfDone (Stays {A = List Token} J) (defined_as file at s o)
-defined_as_stays J file at s None h = tt
-defined_as_stays J file at s (Some m) h = name_stays J m.name s h
+defined_as_stays : (J : Table → Type 0) (gnu : Bool) (file : SourceFile) (at : Pos) (s : State) (o : Option Definition) → J s.table
+    → IfDone (Stays {A = List Token} J) (defined_as gnu file at s o)
+defined_as_stays J gnu file at s None h = tt
+defined_as_stays J gnu file at s (Some m) h = by (may_define gnu m)
+  where
+    own : Definition
+    own = in_gnu gnu m
 
-pub define_stays : (J : Table → Type 0) (file : SourceFile) (at : Pos) (toks : List Token) (s : State) → J s.table
-    → IfDone (Stays {A = List Token} J) (define_of file at toks s)
-define_stays J file at toks s h = defined_as_stays J file at s (defined_by toks) h
+    by : (b : Bool) → IfDone (Stays {A = List Token} J) (cond b (Ok (did [] (define_notes own s) (after_define own s))) (Err (fault_at file at BadDirective)))
+    by true = name_stays J m.name s h
+    by false = tt
+
+pub define_stays : (J : Table → Type 0) (gnu : Bool) (file : SourceFile) (at : Pos) (toks : List Token) (s : State) → J s.table
+    → IfDone (Stays {A = List Token} J) (define_of gnu file at toks s)
+define_stays J gnu file at toks s h = defined_as_stays J gnu file at s (defined_by toks) h
 
 undefined_as_stays : (J : Table → Type 0) (file : SourceFile) (at : Pos) (s : State) (o : Option Token) → J s.table
     → IfDone (Stays {A = List Token} J) (undefined_as file at s o)

@@ -1,24 +1,27 @@
 -- What stays true of the table of files over include lines, items, files and units.
-use Rattle.std.proofs.Common.{◌≡◌, ℕ, zero, suc, ◌+◌, ◌-◌, Bool, true, false, not, List, [], ◌∷◌, map, drop, Option, None, Some}
+use Rattle.std.proofs.Common.{◌≡◌, ℕ, zero, suc, ◌+◌, ◌-◌, Bool, true, false, not, ◌&&◌, List, [], ◌∷◌, map, drop, Option, None, Some, Ok, Err}
 use Rattle.cs_base.specs.declared.positions.Pos.{Pos}
 use Rattle.cs_base.specs.Token.{Token}
 use Rattle.cs_base.specs.Paths.{joined_path_of}
+use Rattle.cs_base.specs.Units.{is_gnu}
+use Rattle.cs_base.specs.declared.causes.Cause.TheVariants.{BadDirective}
+use Rattle.source_files.specs.Faults.{fault_at}
 use Rattle.source_files.specs.Below.line_shape.declared.items.ItemKind.{ItemKind}
 use Rattle.source_files.specs.Below.line_shape.declared.items.ItemKind.TheVariants as kind
+use Rattle.source_files.specs.Below.line_shape.declared.items.GnuLine.TheVariants as gnu
 use Rattle.source_files.specs.Files.{Table, SourceFile, asked}
 use Rattle.source_files.specs.Faults.{place_in, first_place}
-use Rattle.unit_steps.specs.Notes.{Reaches, Entered}
-use Rattle.unit_steps.specs.State.{Context, State, Outcome, only}
+use Rattle.unit_steps.specs.Notes.{Reaches, Entered, ReadOnce}
+use Rattle.unit_steps.specs.State.{Context, State, did, Outcome, only}
 use Rattle.include_tree.specs.Sections.{Group, Processed, Awaited, Over, Skipped, Section, section, are_processed, group_of_else, Turn, Opens, GoesOn, GoesLast, Ends, Stays as Remains, turn_of}
-use Rattle.source_files.specs.Search.{Header, Searched, can_be_asked, candidates_of, directories_for, search}
+use Rattle.source_files.specs.Search.{Header, Searched, Place, places_for, behind_of, can_be_asked, candidates_of, search}
 use Rattle.include_tree.specs.OpeningStep.{open_file}
 use Rattle.unit_steps.specs.Expanding.{expanded_in}
-use Rattle.unit_steps.specs.Conditions.{holds}
-use Rattle.unit_steps.specs.Directives.{opens_with, operand_in, is_if}
-use Rattle.include_tree.specs.Including.{open_searched, open_header, Process, Inner, entered, included, include_of}
-use Rattle.unit_steps.specs.IncludeNames.{header_or, computed_header, header_named}
-use Rattle.source_files.specs.HeaderNames.{header_of_toks, is_header, header_in}
-use Rattle.include_tree.specs.Walk.{ItemText, items_in, processed, Stepped, stepped, go_on, opens, goes_on, reaching_alive, in_section, turned, item_step, file_end, walk, file_items}
+use Rattle.unit_steps.specs.Directives.{opens_with, operand_in, is_if, goes_with, says_once, said_once, pragma_of, is_read_once}
+use Rattle.include_tree.specs.Including.{open_searched, open_header, Process, Inner, left_to, entered, unless_once, included, include_of, include_next_of}
+use Rattle.unit_steps.specs.IncludeNames.{header_or, computed_header, header_named, written_header, next_named}
+use Rattle.source_files.specs.HeaderNames.{header_of_toks, is_header, header_in, header_at, begins_header}
+use Rattle.include_tree.specs.Walk.{ItemText, items_in, processed, Stepped, stepped, go_on, opens, goes_on, reaching_alive, in_section, turned, is_foreign, foreign_line, item_step, file_end, walk, file_items}
 use Rattle.include_tree.specs.Unit.{outer_file, main_file, both_files}
 use Rattle.include_tree.specs.Laws.{IfDone}
 use Rattle.include_tree.specs.PseudoFiles.{is_pseudo}
@@ -52,13 +55,23 @@ open_searched_stays ctx J k file at s found None h = tt
 open_searched_stays ctx J k file at s found (Some path) h =
     open_file_stays ctx J k (place_in file at) path (record s { table = found.table }) h
 
-open_header_stays : (ctx : Context) (J : Table → Type 0) → IsStable ctx.source J → (file : SourceFile) (at : Pos) (header : Header) (s : State) → J s.table
-    → IfDone (Stays {A = SourceFile} J) (open_header ctx file at header s)
-open_header_stays ctx J k file at header s h =
-    let found : Searched = search ctx.source (candidates_of header file.path ctx.unit) s.table in
+written_stays : (J : Table → Type 0) (file : SourceFile) (at : Pos) (s : State) (o : Option Header) → J s.table → IfDone (Stays {A = Header} J) (written_header file at s o)
+written_stays J file at s None h = tt
+written_stays J file at s (Some header) h = h
+
+next_stays : (J : Table → Type 0) (file : SourceFile) (at : Pos) (toks : List Token) (s : State) → J s.table → IfDone (Stays {A = Header} J) (next_named file at toks s)
+next_stays J file at toks s h =
+    cond_done (Stays {A = Header} J) (begins_header toks) (written_header file at s (header_at toks)) (computed_header file at toks s)
+    (written_stays J file at s (header_at toks) h) (computed_stays J file at toks s h)
+
+open_header_stays : (ctx : Context) (J : Table → Type 0) → IsStable ctx.source J → (file : SourceFile) (at : Pos) (next : Bool) (header : Header) (s : State) → J s.table
+    → IfDone (Stays {A = SourceFile} J) (open_header ctx file at next header s)
+open_header_stays ctx J k file at next header s h =
+    let paths = candidates_of next header s.behind file.path ctx.unit in
+    let found : Searched = search ctx.source paths s.table in
     open_searched_stays ctx J k file at s found found.path
-    (search_stays ctx.source J k (candidates_of header file.path ctx.unit) s.table
-    (list_all-filtered can_be_asked (map (λ (directory : List ℕ). joined_path_of directory header.name) (directories_for header file.path ctx.unit))) h)
+    (search_stays ctx.source J k paths s.table
+    (list_all-filtered can_be_asked (map (λ (p : Place). joined_path_of p.directory header.name) (places_for next header s.behind file.path ctx.unit))) h)
 
 -- what is known of the items of included files
 abbrev pub ProcessStays : (Table → Type 0) → Process → Type 0
@@ -68,35 +81,59 @@ abbrev pub InnerStays : (Table → Type 0) → Inner → Type 0
 InnerStays J None = Unit {0}
 InnerStays J (Some process) = ProcessStays J process
 
-entered_stays : (J : Table → Type 0) (process : Process) → ProcessStays J process → (at : Pos) (file : SourceFile) (s : State) → J s.table
-    → IfDone (Stays {A = List Token} J) (entered process at file s)
-entered_stays J process p at file s h =
-    noted_done (Stays {A = List Token} J) (Entered at file.number s.before ∷ []) _
-    (onward_done (Stays {A = List Token} J) (Stays {A = List Token} J) (process file s) _ (p file s h) (λ toks t k. k))
+left_stays : (J : Table → Type 0) (behind : Option ℕ) (m : Outcome (List Token)) → IfDone (Stays {A = List Token} J) m → IfDone (Stays {A = List Token} J) (left_to behind m)
+left_stays J behind (Ok d) h = h
+left_stays J behind (Err found) h = tt
 
-included_stays : (ctx : Context) (J : Table → Type 0) → IsStable ctx.source J → (inner : Inner) → InnerStays J inner → (file : SourceFile) (at : Pos) (header : Header) (s : State)
-    → J s.table → IfDone (Stays {A = List Token} J) (included ctx inner file at header s)
-included_stays ctx J k None p file at header s h = tt
-included_stays ctx J k (Some process) p file at header s h =
-    onward_done (Stays {A = SourceFile} J) (Stays {A = List Token} J) (open_header ctx file at header s) (entered process at)
-    (open_header_stays ctx J k file at header s h) (λ f t g. entered_stays J process p at f t g)
+entered_stays : (J : Table → Type 0) (process : Process) → ProcessStays J process → (at : Pos) (behind : Option ℕ) (file : SourceFile) (s : State) → J s.table
+    → IfDone (Stays {A = List Token} J) (entered process at behind file s)
+entered_stays J process p at behind file s h =
+    let inside : State = record s { behind = behind } in
+    noted_done (Stays {A = List Token} J) (Entered at file.number s.before ∷ []) _
+    (left_stays J s.behind _ (onward_done (Stays {A = List Token} J) (Stays {A = List Token} J) (process file inside) _ (p file inside h) (λ toks t k. k)))
+
+passes_stays : (J : Table → Type 0) (process : Process) → ProcessStays J process → (at : Pos) → ProcessStays J (unless_once at process)
+passes_stays J process p at file s h =
+    cond_done (Stays {A = List Token} J) (is_read_once file.number s) (Ok (did [] (ReadOnce true at file.number s.before ∷ []) s)) (process file s) h (p file s h)
+
+included_stays : (ctx : Context) (J : Table → Type 0) → IsStable ctx.source J → (inner : Inner) → InnerStays J inner → (file : SourceFile) (at : Pos) (next : Bool) (header : Header) (s : State)
+    → J s.table → IfDone (Stays {A = List Token} J) (included ctx inner file at next header s)
+included_stays ctx J k None p file at next header s h = tt
+included_stays ctx J k (Some process) p file at next header s h =
+    let place_of : SourceFile → Option ℕ = λ f. behind_of next header s.behind file.path ctx.unit f.path in
+    onward_done (Stays {A = SourceFile} J) (Stays {A = List Token} J) (open_header ctx file at next header s) (λ f t. entered (unless_once at process) at (place_of f) f t)
+    (open_header_stays ctx J k file at next header s h) (λ f t g. entered_stays J (unless_once at process) (passes_stays J process p at) at (place_of f) f t g)
 
 include_stays : (ctx : Context) (J : Table → Type 0) → IsStable ctx.source J → (inner : Inner) → InnerStays J inner → (file : SourceFile) (at : Pos) (toks : List Token) (s : State)
     → J s.table → IfDone (Stays {A = List Token} J) (include_of ctx inner file at toks s)
 include_stays ctx J k inner p file at toks s h =
-    onward_done (Stays {A = Header} J) (Stays {A = List Token} J) (header_named file at (drop 2 toks) s) (included ctx inner file at)
-    (header_stays J file at (drop 2 toks) s h) (λ header t g. included_stays ctx J k inner p file at header t g)
+    onward_done (Stays {A = Header} J) (Stays {A = List Token} J) (header_named file at (drop 2 toks) s) (included ctx inner file at false)
+    (header_stays J file at (drop 2 toks) s h) (λ header t g. included_stays ctx J k inner p file at false header t g)
+
+include_next_stays : (ctx : Context) (J : Table → Type 0) → IsStable ctx.source J → (inner : Inner) → InnerStays J inner → (file : SourceFile) (at : Pos) (toks : List Token) (s : State)
+    → J s.table → IfDone (Stays {A = List Token} J) (include_next_of ctx inner file at toks s)
+include_next_stays ctx J k inner p file at toks s h =
+    onward_done (Stays {A = Header} J) (Stays {A = List Token} J) (next_named file at (drop 2 toks) s) (included ctx inner file at true)
+    (next_stays J file at (drop 2 toks) s h) (λ header t g. included_stays ctx J k inner p file at true header t g)
 
 -- ---- items
+
+pragma_stays : (J : Table → Type 0) (gnu_ : Bool) (file : SourceFile) (at : Pos) (toks : List Token) (s : State) → J s.table
+    → IfDone (Stays {A = List Token} J) (pragma_of gnu_ file at toks s)
+pragma_stays J gnu_ file at toks s h = cond_done (Stays {A = List Token} J) (gnu_ && says_once toks) (said_once file at s) (only [] s) h h
 
 processed_stays : (ctx : Context) (J : Table → Type 0) → IsStable ctx.source J → (inner : Inner) → InnerStays J inner → (file : SourceFile) (k : ItemKind) (at : Pos) (toks : List Token) (s : State)
     → J s.table → IfDone (Stays {A = List Token} J) (processed ctx inner file k at toks s)
 processed_stays ctx J b inner p file kind.Run at toks s h = run_stays J ctx file toks s h
-processed_stays ctx J b inner p file kind.Define at toks s h = define_stays J file at toks s h
+processed_stays ctx J b inner p file kind.Define at toks s h = define_stays J (is_gnu ctx.unit.standard) file at toks s h
 processed_stays ctx J b inner p file kind.Undef at toks s h = undef_stays J file at toks s h
 processed_stays ctx J b inner p file kind.Include at toks s h = include_stays ctx J b inner p file at toks s h
 processed_stays ctx J b inner p file kind.Error at toks s h = tt
 processed_stays ctx J b inner p file (kind.Bad cause place nests) at toks s h = tt
+processed_stays ctx J b inner p file (kind.Gnu gnu.IncludeNext) at toks s h = include_next_stays ctx J b inner p file at toks s h
+processed_stays ctx J b inner p file (kind.Gnu gnu.Message) at toks s h = h
+processed_stays ctx J b inner p file (kind.Gnu gnu.Elifdef) at toks s h = h
+processed_stays ctx J b inner p file (kind.Gnu gnu.Elifndef) at toks s h = h
 processed_stays ctx J b inner p file kind.If at toks s h = h
 processed_stays ctx J b inner p file kind.Ifdef at toks s h = h
 processed_stays ctx J b inner p file kind.Ifndef at toks s h = h
@@ -104,7 +141,7 @@ processed_stays ctx J b inner p file kind.Elif at toks s h = h
 processed_stays ctx J b inner p file kind.Else at toks s h = h
 processed_stays ctx J b inner p file kind.Endif at toks s h = h
 processed_stays ctx J b inner p file kind.Line at toks s h = h
-processed_stays ctx J b inner p file kind.Pragma at toks s h = h
+processed_stays ctx J b inner p file kind.Pragma at toks s h = pragma_stays J (is_gnu ctx.unit.standard) file at toks s h
 processed_stays ctx J b inner p file kind.Empty at toks s h = h
 
 opens_with_stays : (J : Table → Type 0) (k : ItemKind) (file : SourceFile) (at : Pos) (toks : List Token) (s : State) → J s.table
@@ -113,6 +150,7 @@ opens_with_stays J kind.If file at toks s h = holds_stays J file at (drop 2 toks
 opens_with_stays J kind.Ifdef file at toks s h = asks_stays J file at (λ b. b) s (operand_in toks) h
 opens_with_stays J kind.Ifndef file at toks s h = asks_stays J file at not s (operand_in toks) h
 opens_with_stays J (kind.Bad cause place nests) file at toks s h = tt
+opens_with_stays J (kind.Gnu line) file at toks s h = tt
 opens_with_stays J kind.Run file at toks s h = tt
 opens_with_stays J kind.Define file at toks s h = tt
 opens_with_stays J kind.Undef file at toks s h = tt
@@ -133,11 +171,33 @@ opens_stays J file k i sections s h =
     (onward_done (Stays {A = Bool} J) (Stays {A = Stepped} J) (opens_with i.kind file i.at i.toks s) _ (opens_with_stays J i.kind file i.at i.toks s h) (λ b t g. g)))
     h
 
+goes_with_stays : (J : Table → Type 0) (k : ItemKind) (file : SourceFile) (at : Pos) (toks : List Token) (s : State) → J s.table
+    → IfDone (Stays {A = Bool} J) (goes_with k file at toks s)
+goes_with_stays J (kind.Gnu gnu.Elifdef) file at toks s h = asks_stays J file at (λ b. b) s (operand_in toks) h
+goes_with_stays J (kind.Gnu gnu.Elifndef) file at toks s h = asks_stays J file at not s (operand_in toks) h
+goes_with_stays J (kind.Gnu gnu.IncludeNext) file at toks s h = tt
+goes_with_stays J (kind.Gnu gnu.Message) file at toks s h = tt
+goes_with_stays J (kind.Bad cause place nests) file at toks s h = holds_stays J file at (drop 2 toks) s h
+goes_with_stays J kind.Run file at toks s h = holds_stays J file at (drop 2 toks) s h
+goes_with_stays J kind.Define file at toks s h = holds_stays J file at (drop 2 toks) s h
+goes_with_stays J kind.Undef file at toks s h = holds_stays J file at (drop 2 toks) s h
+goes_with_stays J kind.If file at toks s h = holds_stays J file at (drop 2 toks) s h
+goes_with_stays J kind.Ifdef file at toks s h = holds_stays J file at (drop 2 toks) s h
+goes_with_stays J kind.Ifndef file at toks s h = holds_stays J file at (drop 2 toks) s h
+goes_with_stays J kind.Elif file at toks s h = holds_stays J file at (drop 2 toks) s h
+goes_with_stays J kind.Else file at toks s h = holds_stays J file at (drop 2 toks) s h
+goes_with_stays J kind.Endif file at toks s h = holds_stays J file at (drop 2 toks) s h
+goes_with_stays J kind.Include file at toks s h = holds_stays J file at (drop 2 toks) s h
+goes_with_stays J kind.Line file at toks s h = holds_stays J file at (drop 2 toks) s h
+goes_with_stays J kind.Error file at toks s h = holds_stays J file at (drop 2 toks) s h
+goes_with_stays J kind.Pragma file at toks s h = holds_stays J file at (drop 2 toks) s h
+goes_with_stays J kind.Empty file at toks s h = holds_stays J file at (drop 2 toks) s h
+
 goes_on_stays : (J : Table → Type 0) (file : SourceFile) (k : ℕ) (i : ItemText) (open_ : Section) (sections : List Section) (s : State) (g : Group) → J s.table
     → IfDone (Stays {A = Stepped} J) (goes_on file k i open_ sections s g)
 goes_on_stays J file k i open_ sections s Awaited h =
     noted_done (Stays {A = Stepped} J) (Reaches file.number k true s.before ∷ []) _
-    (onward_done (Stays {A = Bool} J) (Stays {A = Stepped} J) (holds file i.at (drop 2 i.toks) s) _ (holds_stays J file i.at (drop 2 i.toks) s h) (λ b t g. g))
+    (onward_done (Stays {A = Bool} J) (Stays {A = Stepped} J) (goes_with i.kind file i.at i.toks s) _ (goes_with_stays J i.kind file i.at i.toks s h) (λ b t g. g))
 goes_on_stays J file k i open_ sections s Skipped h = h
 goes_on_stays J file k i open_ sections s Processed h = h
 goes_on_stays J file k i open_ sections s Over h = h
@@ -174,6 +234,14 @@ turned_stays ctx J b inner p file k i sections s Remains h =
     (onward_done (Stays {A = List Token} J) (Stays {A = Stepped} J) (processed ctx inner file i.kind i.at i.toks s) _ (processed_stays ctx J b inner p file i.kind i.at i.toks s h) (λ toks t g. g)))
     h
 
+-- a line that GNU C alone has, or an item as it is
+step_stays : (ctx : Context) (J : Table → Type 0) → IsStable ctx.source J → (inner : Inner) → InnerStays J inner → (file : SourceFile) (k : ℕ) (i : ItemText) (sections : List Section) (s : State)
+    → J s.table → IfDone (Stays {A = Stepped} J) (item_step ctx inner file k i sections s)
+step_stays ctx J b inner p file k i sections s h =
+    cond_done (Stays {A = Stepped} J) (is_foreign ctx.unit.standard i.kind) (foreign_line file i sections s) (turned ctx inner file k i sections s (turn_of i.kind))
+    (cond_done (Stays {A = Stepped} J) (are_processed sections) (Err (fault_at file i.at BadDirective)) (only (stepped [] sections) s) tt h)
+    (turned_stays ctx J b inner p file k i sections s (turn_of i.kind) h)
+
 -- ---- files
 
 file_end_stays : (J : Table → Type 0) (file : SourceFile) (sections : List Section) (s : State) → J s.table → IfDone (Stays {A = List Token} J) (file_end file sections s)
@@ -186,7 +254,7 @@ unfolding walk
 walk_stays ctx J b inner p file k [] sections s h = file_end_stays J file sections s h
 walk_stays ctx J b inner p file k (i ∷ items) sections s h =
     onward_done (Stays {A = Stepped} J) (Stays {A = List Token} J) (item_step ctx inner file k i sections s) _
-    (turned_stays ctx J b inner p file k i sections s (turn_of i.kind) h)
+    (step_stays ctx J b inner p file k i sections s h)
     (λ d t g. onward_done (Stays {A = List Token} J) (Stays {A = List Token} J) (walk ctx inner file (k + 1) items d.sections t) _
     (walk_stays ctx J b inner p file (k + 1) items d.sections t g) (λ toks u f. f))
 

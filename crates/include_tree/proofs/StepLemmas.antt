@@ -1,7 +1,8 @@
 -- The steps of items: what becomes of the state.
-use Rattle.std.proofs.Common.{◌≡◌, ℕ, ◌+◌, ◌≤◌, nat_lt, Bool, true, false, List, [], ◌∷◌, length, Option, None, Some, Result, Ok, Err, refl, arith, ltb-false, inl, inr}
+use Rattle.std.proofs.Common.{◌≡◌, ℕ, ◌+◌, ◌≤◌, nat_lt, Bool, true, false, List, [], ◌∷◌, length, Option, None, Some, Result, Ok, Err, refl, arith, ltb-false, inl, inr, cond}
 use Rattle.std.proofs.lemmas.Bool.{cases_Bool}
 use Rattle.std.specs.List.{list_any}
+use Rattle.cs_base.specs.declared.causes.Cause.TheVariants.{BadDirective}
 use Rattle.cs_base.specs.declared.causes.Cause.TheVariants.{DefinedFromMacro}
 use Rattle.cs_base.specs.declared.positions.Pos.{Pos}
 use Rattle.cs_base.specs.Token.{Token}
@@ -13,16 +14,16 @@ use Rattle.unit_steps.specs.Below.macro_body.Hides.{unhidden}
 use Rattle.unit_steps.specs.Below.macro_body.Macro.{Table as Macros}
 use Rattle.unit_steps.specs.Below.macro_body.Notes as expansion
 use Rattle.unit_steps.specs.Below.macro_expand.Expansion.{expansion}
-use Rattle.unit_steps.specs.Below.macro_body.Defining.{defined_by}
+use Rattle.unit_steps.specs.Below.macro_body.Defining.{defined_by, in_gnu}
 use Rattle.unit_steps.specs.Below.macro_body.Live.{with_macro, without_macro}
 use Rattle.unit_steps.proofs.Below.macro_expand.WholeLemmas.{whole_falls}
 use Rattle.source_files.specs.Files.{SourceFile}
 use Rattle.source_files.specs.Faults.{fault_at}
-use Rattle.unit_steps.specs.State.{Context, State, Outcome, onward}
+use Rattle.unit_steps.specs.State.{Context, State, Outcome, onward, did}
 use Rattle.unit_steps.specs.Names.{with_name}
 use Rattle.unit_steps.specs.Expanding.{expanded_as, expanded_in, most_toks, put_out, run_of}
 use Rattle.unit_steps.specs.Conditions.{Piece, Plain, Asks, pieces_from, answered, left_over, valued, judged, asked_pieces, holds, is_defined}
-use Rattle.unit_steps.specs.Directives.{defined_as, define_of, undefined_as, undef_of, operand_in, asks_name}
+use Rattle.unit_steps.specs.Directives.{defined_as, define_of, undefined_as, undef_of, operand_in, asks_name, define_notes, after_define, may_define}
 use Rattle.include_tree.specs.Laws.{IfDone, Leads}
 use Rattle.include_tree.proofs.OutcomeLemmas.{onward_done, test_done}
 use Rattle.source_files.proofs.TableLemmas.{widens_refl}
@@ -90,12 +91,19 @@ leads_named ctx name s macros =
     leads_then ctx s (with_name name s) (record (with_name name s) { macros = macros }) 0 (leads_name ctx name s)
     (leads_macros ctx (with_name name s) macros)
 
-defined_as_leads : (ctx : Context) (file : SourceFile) (at : Pos) (s : State) (o : Option Definition) → IfDone (PutsOut ctx s) (defined_as file at s o)
-defined_as_leads ctx file at s None = tt
-defined_as_leads ctx file at s (Some m) = leads_named ctx m.name s (with_macro m s.macros)
+defined_as_leads : (ctx : Context) (gnu : Bool) (file : SourceFile) (at : Pos) (s : State) (o : Option Definition) → IfDone (PutsOut ctx s) (defined_as gnu file at s o)
+defined_as_leads ctx gnu file at s None = tt
+defined_as_leads ctx gnu file at s (Some m) = by (may_define gnu m)
+  where
+    own : Definition
+    own = in_gnu gnu m
 
-pub define_leads : (ctx : Context) (file : SourceFile) (at : Pos) (toks : List Token) (s : State) → IfDone (PutsOut ctx s) (define_of file at toks s)
-define_leads ctx file at toks s = defined_as_leads ctx file at s (defined_by toks)
+    by : (b : Bool) → IfDone (PutsOut ctx s) (cond b (Ok (did [] (define_notes own s) (after_define own s))) (Err (fault_at file at BadDirective)))
+    by true = leads_named ctx m.name s (with_macro own s.macros)
+    by false = tt
+
+pub define_leads : (ctx : Context) (gnu : Bool) (file : SourceFile) (at : Pos) (toks : List Token) (s : State) → IfDone (PutsOut ctx s) (define_of gnu file at toks s)
+define_leads ctx gnu file at toks s = defined_as_leads ctx gnu file at s (defined_by toks)
 
 undefined_as_leads : (ctx : Context) (file : SourceFile) (at : Pos) (s : State) (o : Option Token) → IfDone (PutsOut ctx s) (undefined_as file at s o)
 undefined_as_leads ctx file at s None = tt

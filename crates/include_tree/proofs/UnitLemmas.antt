@@ -1,8 +1,8 @@
 -- Units, one file after the other.
-use Rattle.std.proofs.Common.{◌≡◌, ℕ, ◌+◌, ◌<◌, ◌^◌, ◌==◌, ◌&&◌, Bool, true, false, not, is_some, List, ◌++◌, length, Option, Some, None, Result, Ok, Err, refl, sym, ◌∙◌, ap, subst, append_assoc}
+use Rattle.std.proofs.Common.{◌≡◌, ℕ, ◌+◌, ◌<◌, ◌^◌, ◌==◌, ◌&&◌, true, not, List, ◌++◌, length, Option, Some, None, Result, Ok, Err, refl, sym, ◌∙◌, ap, subst, append_assoc}
 use Rattle.std.specs.Prelude.{IfSome, codes}
 use Rattle.std.specs.Fmt.{decimal}
-use Rattle.std.specs.Str.{bytes_eq, is_utf8, chars}
+use Rattle.std.specs.Str.{is_utf8, chars}
 use Rattle.std.proofs.lemmas.List.{append-nil}
 use Rattle.std.proofs.lemmas.Fmt.{IsAscii-decimal}
 use Rattle.std.proofs.lemmas.Str.{IsUtf8-append, IsUtf8-from_ascii, IsUtf8-from_is_utf8, is_utf8-from_IsUtf8}
@@ -14,7 +14,7 @@ use Rattle.source_files.specs.Below.lexer.FileText.{file_text}
 use Rattle.cs_base.specs.Units.{UnitValue, defines_of, IsUnit, is_unit_path, is_writable, begins_with, less_sign}
 use Rattle.source_files.specs.declared.pre_fault.PreFault.{PreFault}
 use Rattle.source_files.specs.Limits.{the_limits}
-use Rattle.source_files.specs.Files.{Source, Found, Made, Table, Carried, carried, lines_path, defines_path, numbered, asked}
+use Rattle.source_files.specs.Files.{Source, Made, Table, Carried, carried, defines_path, numbered, asked}
 use Rattle.source_files.specs.Faults.{Fault, first_place}
 use Rattle.unit_steps.specs.Notes.{Note}
 use Rattle.unit_steps.specs.State.{State, Did, Outcome, only, noted, onward}
@@ -104,13 +104,6 @@ defines_opening number unit t = opening the_limits file_text (first_place (defin
 abbrev pub main_opening : List ℕ → Table → Source → Opening
 main_opening path t source = opening the_limits file_text (first_place path) path (asked source path t)
 
--- what is opened at another path or in another table is the same
-pub gives-made : (r : Result ℕ PreFault) (v t : Table) (path path2 text : List ℕ) (number : ℕ) (unit : UnitValue) → path ≡ defines_path number → path2 ≡ path → text ≡ defines_of unit
-    → GivesOpening r (opening the_limits file_text (first_place path2) path2 (numbered path2 (Made text) t)) v → GivesOpening r (defines_opening number unit t) v
-gives-made r v t path path2 text number unit is same text_is h =
-    subst (λ (p : List ℕ). GivesOpening r (opening the_limits file_text (first_place p) p (numbered p (Made (defines_of unit)) t)) v) (same ∙ is)
-    (subst (λ (x : List ℕ). GivesOpening r (opening the_limits file_text (first_place path2) path2 (numbered path2 (Made x) t)) v) text_is h)
-
 pub gives-main : (source : Source) (r : Result ℕ PreFault) (v t u : Table) (path : List ℕ) (place : Place) → place ≡ first_place path
     → u ≡ asked source path t → GivesOpening r (opening the_limits file_text place path u) v → GivesOpening r (main_opening path t source) v
 gives-main source r v t u path place is asked_is h =
@@ -169,10 +162,6 @@ module _ (number : ℕ) (unit : UnitValue) (before : Carried) (s : State) (k : U
 
 -- ---- paths
 
--- a pseudo file of settings is not that of lines
-pub defines-apart : (path : List ℕ) (number : ℕ) → path ≡ defines_path number → bytes_eq path lines_path ≡ false
-defines-apart path number is = subst (λ (p : List ℕ). bytes_eq p lines_path ≡ false) (sym is) refl
-
 front-text : is_utf8 (codes "<defines ") ≡ true
 unfolding is_utf8 chars lib.Utf8.encode
 front-text = refl
@@ -187,10 +176,6 @@ defines-text path number is few =
     let front = IsUtf8-append (codes "<defines ") (decimal number) (IsUtf8-from_is_utf8 (codes "<defines ") front-text) (IsUtf8-from_ascii (decimal number) (IsAscii-decimal number few)) in
     subst (λ (p : List ℕ). is_utf8 p ≡ true) (sym is)
     (is_utf8-from_IsUtf8 (defines_path number) (IsUtf8-append (codes "<defines " ++ decimal number) (codes ">") front (IsUtf8-from_is_utf8 (codes ">") end-text)))
-
-pub not_met : (o : Option Found) (b : Bool) → b ≡ is_some o → b ≡ false → o ≡ None
-not_met None b h other = refl
-not_met (Some f) b h other = absurd (cc)
 
 -- the path of a unit can be asked for
 pub unit-asked : (path : List ℕ) (u : UnitValue) → path ≡ u.path → IsUnit u → can_be_asked path ≡ true

@@ -1,31 +1,33 @@
 -- The items of files and of units: what becomes of the state.
-use Rattle.std.proofs.Common.{◌≡◌, ℕ, zero, suc, ◌+◌, ◌-◌, ◌≤◌, Bool, true, false, List, [], ◌∷◌, ◌++◌, length, Option, None, Some, Ok, Err, refl, sym, arith, length-append, drop, not}
+use Rattle.std.proofs.Common.{◌≡◌, ℕ, zero, suc, ◌+◌, ◌-◌, ◌≤◌, Bool, true, false, List, [], ◌∷◌, ◌++◌, length, Option, None, Some, Ok, Err, refl, sym, arith, length-append, drop, not, ◌&&◌}
 use Rattle.cs_base.specs.declared.positions.Pos.{Pos}
 use Rattle.cs_base.specs.Token.{Token}
-use Rattle.cs_base.specs.Units.{UnitValue, defines_of}
+use Rattle.cs_base.specs.Units.{UnitValue, is_gnu, defines_of}
+use Rattle.cs_base.specs.declared.causes.Cause.TheVariants.{BadDirective}
+use Rattle.source_files.specs.Faults.{fault_at}
 use Rattle.source_files.specs.Below.line_shape.declared.items.ItemKind.{ItemKind}
 use Rattle.source_files.specs.Below.line_shape.declared.items.ItemKind.TheVariants as kind
+use Rattle.source_files.specs.Below.line_shape.declared.items.GnuLine.TheVariants as gnu
 use Rattle.source_files.specs.Limits.{Limits}
 use Rattle.source_files.specs.Files.{Source, Made, Table, SourceFile, Carried, asked, found_at, defines_path}
 use Rattle.source_files.specs.Faults.{place_in, first_place}
-use Rattle.unit_steps.specs.Notes.{Reaches, Entered}
-use Rattle.unit_steps.specs.State.{Context, context, State, Outcome, only}
+use Rattle.unit_steps.specs.Notes.{Reaches, Entered, ReadOnce}
+use Rattle.unit_steps.specs.State.{Context, context, State, did, Outcome, only}
 use Rattle.source_files.specs.Opening.{Reader}
 use Rattle.include_tree.specs.Sections.{Group, Processed, Awaited, Over, Skipped, Section, section, are_processed, group_of_else, Turn, Opens, GoesOn, GoesLast, Ends, Stays, turn_of}
-use Rattle.source_files.specs.Search.{Header, Searched, candidates_of, search}
+use Rattle.source_files.specs.Search.{Header, Searched, behind_of, candidates_of, search}
 use Rattle.include_tree.specs.OpeningStep.{open_file}
 use Rattle.unit_steps.specs.Expanding.{expanded_in}
-use Rattle.unit_steps.specs.Conditions.{holds}
-use Rattle.unit_steps.specs.Directives.{opens_with, operand_in, is_if}
-use Rattle.include_tree.specs.Including.{open_searched, open_header, Process, Inner, entered, included, include_of}
-use Rattle.unit_steps.specs.IncludeNames.{header_or, computed_header, header_named}
-use Rattle.source_files.specs.HeaderNames.{header_of_toks, is_header, header_in}
-use Rattle.include_tree.specs.Walk.{ItemText, items_in, processed, Stepped, stepped, go_on, opens, goes_on, reaching_alive, in_section, turned, item_step, file_end, walk, file_items}
+use Rattle.unit_steps.specs.Directives.{opens_with, operand_in, is_if, goes_with, says_once, with_once, said_once, pragma_of, is_read_once}
+use Rattle.include_tree.specs.Including.{open_searched, open_header, Process, Inner, left_to, entered, unless_once, included, include_of, include_next_of}
+use Rattle.unit_steps.specs.IncludeNames.{header_or, computed_header, header_named, written_header, next_named}
+use Rattle.source_files.specs.HeaderNames.{header_of_toks, is_header, header_in, header_at, begins_header}
+use Rattle.include_tree.specs.Walk.{ItemText, items_in, processed, Stepped, stepped, go_on, opens, goes_on, reaching_alive, in_section, turned, is_foreign, foreign_line, item_step, file_end, walk, file_items}
 use Rattle.include_tree.specs.Unit.{first_state, outer_file, main_file, both_files, unit_outcome}
 use Rattle.include_tree.specs.Laws.{IfDone, Leads, UnitEnds}
 use Rattle.source_files.specs.Tables.{Widens}
 use Rattle.include_tree.proofs.OutcomeLemmas.{noted_done, onward_done, cond_done}
-use Rattle.source_files.proofs.TableLemmas.{widens_trans, widens_asked, widens_push}
+use Rattle.source_files.proofs.TableLemmas.{widens_refl, widens_trans, widens_asked, widens_push}
 use Rattle.include_tree.proofs.LeadsLemmas.{leads_by, leads_refl, leads_trans, leads_as}
 use Rattle.include_tree.proofs.SearchLemmas.{search_wide, open_file_leads}
 use Rattle.include_tree.proofs.StepLemmas.{Behind, PutsOut, expanded_leads, run_leads, puts_then, behind_then, define_leads, undef_leads, asks_leads, holds_leads}
@@ -61,10 +63,20 @@ open_searched_leads ctx file at s found (Some path) h =
     (open_file ctx (place_in file at) path (record s { table = found.table }))
     (open_file_leads ctx (place_in file at) path (record s { table = found.table }))
 
-open_header_leads : (ctx : Context) (file : SourceFile) (at : Pos) (h : Header) (s : State) → IfDone (Behind {A = SourceFile} ctx s) (open_header ctx file at h s)
-open_header_leads ctx file at h s =
-    let found : Searched = search ctx.source (candidates_of h file.path ctx.unit) s.table in
-    open_searched_leads ctx file at s found found.path (search_wide ctx.source (candidates_of h file.path ctx.unit) s.table)
+written_leads : (ctx : Context) (file : SourceFile) (at : Pos) (s : State) (o : Option Header) → IfDone (Behind {A = Header} ctx s) (written_header file at s o)
+written_leads ctx file at s None = tt
+written_leads ctx file at s (Some h) = leads_refl ctx s
+
+next_leads : (ctx : Context) (file : SourceFile) (at : Pos) (toks : List Token) (s : State) → IfDone (Behind {A = Header} ctx s) (next_named file at toks s)
+next_leads ctx file at toks s =
+    cond_done (Behind {A = Header} ctx s) (begins_header toks) (written_header file at s (header_at toks)) (computed_header file at toks s)
+    (written_leads ctx file at s (header_at toks)) (computed_leads ctx file at toks s)
+
+open_header_leads : (ctx : Context) (file : SourceFile) (at : Pos) (next : Bool) (h : Header) (s : State) → IfDone (Behind {A = SourceFile} ctx s) (open_header ctx file at next h s)
+open_header_leads ctx file at next h s =
+    let paths = candidates_of next h s.behind file.path ctx.unit in
+    let found : Searched = search ctx.source paths s.table in
+    open_searched_leads ctx file at s found found.path (search_wide ctx.source paths s.table)
 
 -- what is known of the items of included files
 abbrev pub ProcessLeads : Context → Process → Type 0
@@ -74,36 +86,67 @@ abbrev pub InnerLeads : Context → Inner → Type 0
 InnerLeads ctx None = Unit {0}
 InnerLeads ctx (Some process) = ProcessLeads ctx process
 
-entered_leads : (ctx : Context) (process : Process) → ProcessLeads ctx process → (at : Pos) (file : SourceFile) (s : State)
-    → IfDone (PutsOut ctx s) (entered process at file s)
-entered_leads ctx process p at file s =
-    noted_done (PutsOut ctx s) (Entered at file.number s.before ∷ []) _
-    (onward_done (PutsOut ctx s) (PutsOut ctx s) (process file s) _ (p file s) (λ toks t h. h))
+-- where a search for the next file of a name begins is no part of what leads on
+left_leads : (ctx : Context) (s : State) (behind : Option ℕ) (m : Outcome (List Token)) → IfDone (PutsOut ctx s) m → IfDone (PutsOut ctx s) (left_to behind m)
+left_leads ctx s behind (Ok d) h = record { counted = h.counted; few = h.few; work = h.work; table = h.table }
+left_leads ctx s behind (Err found) h = tt
 
-included_leads : (ctx : Context) (inner : Inner) → InnerLeads ctx inner → (file : SourceFile) (at : Pos) (h : Header) (s : State)
-    → IfDone (PutsOut ctx s) (included ctx inner file at h s)
-included_leads ctx None p file at h s = tt
-included_leads ctx (Some process) p file at h s =
-    onward_done (Behind {A = SourceFile} ctx s) (PutsOut ctx s) (open_header ctx file at h s) (entered process at) (open_header_leads ctx file at h s)
-    (λ f t k. puts_then ctx s t k (entered process at f t) (entered_leads ctx process p at f t))
+entered_leads : (ctx : Context) (process : Process) → ProcessLeads ctx process → (at : Pos) (behind : Option ℕ) (file : SourceFile) (s : State)
+    → IfDone (PutsOut ctx s) (entered process at behind file s)
+entered_leads ctx process p at behind file s =
+    let inside : State = record s { behind = behind } in
+    let moves : Leads ctx s 0 inside = leads_by ctx s inside refl (omega arith) (widens_refl ctx.source s.table) in
+    noted_done (PutsOut ctx s) (Entered at file.number s.before ∷ []) _
+    (left_leads ctx s s.behind _
+    (onward_done (PutsOut ctx s) (PutsOut ctx s) (process file inside) _ (puts_then ctx s inside moves (process file inside) (p file inside)) (λ toks t h. h)))
+
+passes_leads : (ctx : Context) (process : Process) → ProcessLeads ctx process → (at : Pos) → ProcessLeads ctx (unless_once at process)
+passes_leads ctx process p at file s =
+    cond_done (PutsOut ctx s) (is_read_once file.number s) (Ok (did [] (ReadOnce true at file.number s.before ∷ []) s)) (process file s) (leads_refl ctx s) (p file s)
+
+included_leads : (ctx : Context) (inner : Inner) → InnerLeads ctx inner → (file : SourceFile) (at : Pos) (next : Bool) (h : Header) (s : State)
+    → IfDone (PutsOut ctx s) (included ctx inner file at next h s)
+included_leads ctx None p file at next h s = tt
+included_leads ctx (Some process) p file at next h s =
+    let place_of : SourceFile → Option ℕ = λ f. behind_of next h s.behind file.path ctx.unit f.path in
+    onward_done (Behind {A = SourceFile} ctx s) (PutsOut ctx s) (open_header ctx file at next h s) (λ f t. entered (unless_once at process) at (place_of f) f t) (open_header_leads ctx file at next h s)
+    (λ f t k. puts_then ctx s t k (entered (unless_once at process) at (place_of f) f t)
+    (entered_leads ctx (unless_once at process) (passes_leads ctx process p at) at (place_of f) f t))
 
 include_leads : (ctx : Context) (inner : Inner) → InnerLeads ctx inner → (file : SourceFile) (at : Pos) (toks : List Token) (s : State)
     → IfDone (PutsOut ctx s) (include_of ctx inner file at toks s)
 include_leads ctx inner p file at toks s =
-    onward_done (Behind {A = Header} ctx s) (PutsOut ctx s) (header_named file at (drop 2 toks) s) (included ctx inner file at)
+    onward_done (Behind {A = Header} ctx s) (PutsOut ctx s) (header_named file at (drop 2 toks) s) (included ctx inner file at false)
     (header_leads ctx file at (drop 2 toks) s)
-    (λ h t k. puts_then ctx s t k (included ctx inner file at h t) (included_leads ctx inner p file at h t))
+    (λ h t k. puts_then ctx s t k (included ctx inner file at false h t) (included_leads ctx inner p file at false h t))
+
+include_next_leads : (ctx : Context) (inner : Inner) → InnerLeads ctx inner → (file : SourceFile) (at : Pos) (toks : List Token) (s : State)
+    → IfDone (PutsOut ctx s) (include_next_of ctx inner file at toks s)
+include_next_leads ctx inner p file at toks s =
+    onward_done (Behind {A = Header} ctx s) (PutsOut ctx s) (next_named file at (drop 2 toks) s) (included ctx inner file at true)
+    (next_leads ctx file at (drop 2 toks) s)
+    (λ h t k. puts_then ctx s t k (included ctx inner file at true h t) (included_leads ctx inner p file at true h t))
 
 -- ---- items
+
+-- which files are read once is no part of what leads on
+pragma_leads : (ctx : Context) (gnu_ : Bool) (file : SourceFile) (at : Pos) (toks : List Token) (s : State) → IfDone (PutsOut ctx s) (pragma_of gnu_ file at toks s)
+pragma_leads ctx gnu_ file at toks s =
+    cond_done (PutsOut ctx s) (gnu_ && says_once toks) (said_once file at s) (only [] s)
+    (leads_by ctx s (with_once file.number s) refl (omega arith) (widens_refl ctx.source s.table)) (leads_refl ctx s)
 
 processed_leads : (ctx : Context) (inner : Inner) → InnerLeads ctx inner → (file : SourceFile) (k : ItemKind) (at : Pos) (toks : List Token) (s : State)
     → IfDone (PutsOut ctx s) (processed ctx inner file k at toks s)
 processed_leads ctx inner p file kind.Run at toks s = run_leads ctx file toks s
-processed_leads ctx inner p file kind.Define at toks s = define_leads ctx file at toks s
+processed_leads ctx inner p file kind.Define at toks s = define_leads ctx (is_gnu ctx.unit.standard) file at toks s
 processed_leads ctx inner p file kind.Undef at toks s = undef_leads ctx file at toks s
 processed_leads ctx inner p file kind.Include at toks s = include_leads ctx inner p file at toks s
 processed_leads ctx inner p file kind.Error at toks s = tt
 processed_leads ctx inner p file (kind.Bad cause place nests) at toks s = tt
+processed_leads ctx inner p file (kind.Gnu gnu.IncludeNext) at toks s = include_next_leads ctx inner p file at toks s
+processed_leads ctx inner p file (kind.Gnu gnu.Message) at toks s = leads_refl ctx s
+processed_leads ctx inner p file (kind.Gnu gnu.Elifdef) at toks s = leads_refl ctx s
+processed_leads ctx inner p file (kind.Gnu gnu.Elifndef) at toks s = leads_refl ctx s
 processed_leads ctx inner p file kind.If at toks s = leads_refl ctx s
 processed_leads ctx inner p file kind.Ifdef at toks s = leads_refl ctx s
 processed_leads ctx inner p file kind.Ifndef at toks s = leads_refl ctx s
@@ -111,7 +154,7 @@ processed_leads ctx inner p file kind.Elif at toks s = leads_refl ctx s
 processed_leads ctx inner p file kind.Else at toks s = leads_refl ctx s
 processed_leads ctx inner p file kind.Endif at toks s = leads_refl ctx s
 processed_leads ctx inner p file kind.Line at toks s = leads_refl ctx s
-processed_leads ctx inner p file kind.Pragma at toks s = leads_refl ctx s
+processed_leads ctx inner p file kind.Pragma at toks s = pragma_leads ctx (is_gnu ctx.unit.standard) file at toks s
 processed_leads ctx inner p file kind.Empty at toks s = leads_refl ctx s
 
 opens_with_leads : (ctx : Context) (k : ItemKind) (file : SourceFile) (at : Pos) (toks : List Token) (s : State)
@@ -120,6 +163,7 @@ opens_with_leads ctx kind.If file at toks s = holds_leads ctx file at (drop 2 to
 opens_with_leads ctx kind.Ifdef file at toks s = asks_leads ctx file at (λ b. b) s (operand_in toks)
 opens_with_leads ctx kind.Ifndef file at toks s = asks_leads ctx file at not s (operand_in toks)
 opens_with_leads ctx (kind.Bad cause place nests) file at toks s = tt
+opens_with_leads ctx (kind.Gnu line) file at toks s = tt
 opens_with_leads ctx kind.Run file at toks s = tt
 opens_with_leads ctx kind.Define file at toks s = tt
 opens_with_leads ctx kind.Undef file at toks s = tt
@@ -143,11 +187,33 @@ opens_leads ctx file k i sections s =
     (onward_done (Behind {A = Bool} ctx s) (Steps ctx s) (opens_with i.kind file i.at i.toks s) _ (opens_with_leads ctx i.kind file i.at i.toks s) (λ b t h. h)))
     (leads_refl ctx s)
 
+goes_with_leads : (ctx : Context) (k : ItemKind) (file : SourceFile) (at : Pos) (toks : List Token) (s : State)
+    → IfDone (Behind {A = Bool} ctx s) (goes_with k file at toks s)
+goes_with_leads ctx (kind.Gnu gnu.Elifdef) file at toks s = asks_leads ctx file at (λ b. b) s (operand_in toks)
+goes_with_leads ctx (kind.Gnu gnu.Elifndef) file at toks s = asks_leads ctx file at not s (operand_in toks)
+goes_with_leads ctx (kind.Gnu gnu.IncludeNext) file at toks s = tt
+goes_with_leads ctx (kind.Gnu gnu.Message) file at toks s = tt
+goes_with_leads ctx (kind.Bad cause place nests) file at toks s = holds_leads ctx file at (drop 2 toks) s
+goes_with_leads ctx kind.Run file at toks s = holds_leads ctx file at (drop 2 toks) s
+goes_with_leads ctx kind.Define file at toks s = holds_leads ctx file at (drop 2 toks) s
+goes_with_leads ctx kind.Undef file at toks s = holds_leads ctx file at (drop 2 toks) s
+goes_with_leads ctx kind.If file at toks s = holds_leads ctx file at (drop 2 toks) s
+goes_with_leads ctx kind.Ifdef file at toks s = holds_leads ctx file at (drop 2 toks) s
+goes_with_leads ctx kind.Ifndef file at toks s = holds_leads ctx file at (drop 2 toks) s
+goes_with_leads ctx kind.Elif file at toks s = holds_leads ctx file at (drop 2 toks) s
+goes_with_leads ctx kind.Else file at toks s = holds_leads ctx file at (drop 2 toks) s
+goes_with_leads ctx kind.Endif file at toks s = holds_leads ctx file at (drop 2 toks) s
+goes_with_leads ctx kind.Include file at toks s = holds_leads ctx file at (drop 2 toks) s
+goes_with_leads ctx kind.Line file at toks s = holds_leads ctx file at (drop 2 toks) s
+goes_with_leads ctx kind.Error file at toks s = holds_leads ctx file at (drop 2 toks) s
+goes_with_leads ctx kind.Pragma file at toks s = holds_leads ctx file at (drop 2 toks) s
+goes_with_leads ctx kind.Empty file at toks s = holds_leads ctx file at (drop 2 toks) s
+
 goes_on_leads : (ctx : Context) (file : SourceFile) (k : ℕ) (i : ItemText) (open_ : Section) (sections : List Section) (s : State) (g : Group)
     → IfDone (Steps ctx s) (goes_on file k i open_ sections s g)
 goes_on_leads ctx file k i open_ sections s Awaited =
     noted_done (Steps ctx s) (Reaches file.number k true s.before ∷ []) _
-    (onward_done (Behind {A = Bool} ctx s) (Steps ctx s) (holds file i.at (drop 2 i.toks) s) _ (holds_leads ctx file i.at (drop 2 i.toks) s) (λ b t h. h))
+    (onward_done (Behind {A = Bool} ctx s) (Steps ctx s) (goes_with i.kind file i.at i.toks s) _ (goes_with_leads ctx i.kind file i.at i.toks s) (λ b t h. h))
 goes_on_leads ctx file k i open_ sections s Skipped = leads_refl ctx s
 goes_on_leads ctx file k i open_ sections s Processed = leads_refl ctx s
 goes_on_leads ctx file k i open_ sections s Over = leads_refl ctx s
@@ -195,13 +261,21 @@ both_lead : (ctx : Context) (s t u : State) (xs ys : List Token) → Leads ctx s
 both_lead ctx s t u xs ys h k =
     leads_as ctx s u (length xs + length ys) (length (xs ++ ys)) (sym (length-append xs ys)) (leads_trans ctx s t u (length xs) (length ys) h k)
 
+-- a line that GNU C alone has, or an item as it is
+step_leads : (ctx : Context) (inner : Inner) → InnerLeads ctx inner → (file : SourceFile) (k : ℕ) (i : ItemText) (sections : List Section) (s : State)
+    → IfDone (Steps ctx s) (item_step ctx inner file k i sections s)
+step_leads ctx inner p file k i sections s =
+    cond_done (Steps ctx s) (is_foreign ctx.unit.standard i.kind) (foreign_line file i sections s) (turned ctx inner file k i sections s (turn_of i.kind))
+    (cond_done (Steps ctx s) (are_processed sections) (Err (fault_at file i.at BadDirective)) (only (stepped [] sections) s) tt (leads_refl ctx s))
+    (turned_leads ctx inner p file k i sections s (turn_of i.kind))
+
 pub walk_leads : (ctx : Context) (inner : Inner) → InnerLeads ctx inner → (file : SourceFile) (k : ℕ) (items : List ItemText) (sections : List Section) (s : State)
     → IfDone (PutsOut ctx s) (walk ctx inner file k items sections s)
 unfolding walk
 walk_leads ctx inner p file k [] sections s = file_end_leads ctx file sections s
 walk_leads ctx inner p file k (i ∷ items) sections s =
     onward_done (Steps ctx s) (PutsOut ctx s) (item_step ctx inner file k i sections s) _
-    (turned_leads ctx inner p file k i sections s (turn_of i.kind))
+    (step_leads ctx inner p file k i sections s)
     (λ d t h. onward_done (PutsOut ctx t) (PutsOut ctx s) (walk ctx inner file (k + 1) items d.sections t) _
     (walk_leads ctx inner p file (k + 1) items d.sections t) (λ toks u g. both_lead ctx s t u d.toks toks h g))
 

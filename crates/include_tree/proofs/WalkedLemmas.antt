@@ -1,5 +1,5 @@
 -- The walk over the items of files, one item at a time.
-use Rattle.std.proofs.Common.{◌≡◌, ℕ, zero, suc, ◌+◌, ◌-◌, ◌<◌, ◌≤◌, List, [], ◌∷◌, ◌++◌, drop, length, Option, Some, None, Ok, Err, refl, sym, ◌∙◌, ap, subst, arith, append_assoc}
+use Rattle.std.proofs.Common.{◌≡◌, ℕ, zero, suc, ◌+◌, ◌-◌, ◌<◌, ◌≤◌, Bool, List, [], ◌∷◌, ◌++◌, drop, length, Option, Some, None, Ok, Err, refl, sym, ◌∙◌, ap, subst, arith, append_assoc}
 use Rattle.std.specs.Prelude.{IfSome, slice_get}
 use Rattle.std.proofs.lemmas.List.{append-nil}
 use Rattle.cs_base.specs.Token.{Token}
@@ -11,8 +11,8 @@ use Rattle.unit_steps.specs.State.{Context, State, Did, did, Outcome, only, note
 use Rattle.unit_steps.proofs.GoingLemmas.{done_same, err_same}
 use Rattle.source_files.proofs.SearchedLemmas.{drop-past}
 use Rattle.include_tree.specs.Sections.{Section}
-use Rattle.source_files.specs.Search.{Header}
-use Rattle.include_tree.specs.Including.{Process, Inner, open_header, entered, included}
+use Rattle.source_files.specs.Search.{Header, behind_of}
+use Rattle.include_tree.specs.Including.{Process, Inner, open_header, left_to, entered, unless_once, included}
 use Rattle.include_tree.specs.Walk.{ItemText, items_in, Stepped, item_step, file_end, walk, file_items}
 use Rattle.unit_steps.specs.Texts.{UnitTextValue}
 use Rattle.unit_steps.specs.Keeping.{noted_in, put_in, put_after}
@@ -119,46 +119,55 @@ end-none text file sections s is = ap (λ (xs : List Section). put_after text (f
 
 -- ---- files that are included
 
-pub included-fault : (ctx : Context) (room : ℕ) (file : SourceFile) (at : Pos) (h : Header) (s : State) (k : UnitTextValue) (f : Fault) → 0 < room
-    → open_header ctx file at h s ≡ Err f → put_after k (included ctx (inner_in ctx room) file at h s) ≡ Err f
-included-fault ctx zero file at h s k f some is = absurd (omega (arith, some))
-included-fault ctx (suc room) file at h s k f some is = ap (λ (o : Outcome SourceFile). put_after k (onward o (entered (file_items ctx room) at))) is
+-- where a search for the next file of a name begins in one
+abbrev pub place_of : Context → SourceFile → Bool → Header → State → SourceFile → Option ℕ
+place_of ctx file next h s inner = behind_of next h s.behind file.path ctx.unit inner.path
 
-pub included-open : (ctx : Context) (room : ℕ) (file : SourceFile) (at : Pos) (h : Header) (s : State) (k : UnitTextValue) (inner : SourceFile) (t : State) → 0 < room
-    → open_header ctx file at h s ≡ Ok (did inner [] t)
-    → put_after k (included ctx (inner_in ctx room) file at h s) ≡ put_after k (entered (file_items ctx (room - 1)) at inner t)
-included-open ctx zero file at h s k inner t some is = absurd (omega (arith, some))
-included-open ctx (suc room) file at h s k inner t some is =
+abbrev enters : Context → ℕ → SourceFile → Pos → Bool → Header → State → SourceFile → State → Outcome (List Token)
+enters ctx room file at next h s inner t = entered (unless_once at (file_items ctx room)) at (place_of ctx file next h s inner) inner t
+
+pub included-fault : (ctx : Context) (room : ℕ) (file : SourceFile) (at : Pos) (next : Bool) (h : Header) (s : State) (k : UnitTextValue) (f : Fault) → 0 < room
+    → open_header ctx file at next h s ≡ Err f → put_after k (included ctx (inner_in ctx room) file at next h s) ≡ Err f
+included-fault ctx zero file at next h s k f some is = absurd (omega (arith, some))
+included-fault ctx (suc room) file at next h s k f some is = ap (λ (o : Outcome SourceFile). put_after k (onward o (enters ctx room file at next h s))) is
+
+pub included-open : (ctx : Context) (room : ℕ) (file : SourceFile) (at : Pos) (next : Bool) (h : Header) (s : State) (k : UnitTextValue) (inner : SourceFile) (t : State) → 0 < room
+    → open_header ctx file at next h s ≡ Ok (did inner [] t)
+    → put_after k (included ctx (inner_in ctx room) file at next h s) ≡ put_after k (entered (unless_once at (file_items ctx (room - 1))) at (place_of ctx file next h s inner) inner t)
+included-open ctx zero file at next h s k inner t some is = absurd (omega (arith, some))
+included-open ctx (suc room) file at next h s k inner t some is =
     let n : suc room - 1 ≡ room = omega arith in
-    rw n (ap (λ (o : Outcome SourceFile). put_after k (onward o (entered (file_items ctx room) at))) is
-    ∙ put-noted k [] (entered (file_items ctx room) at inner t)
-    ∙ ap (λ (x : UnitTextValue). put_after x (entered (file_items ctx room) at inner t)) (noted_in-nil k))
+    rw n (ap (λ (o : Outcome SourceFile). put_after k (onward o (enters ctx room file at next h s))) is
+    ∙ put-noted k [] (enters ctx room file at next h s inner t)
+    ∙ ap (λ (x : UnitTextValue). put_after x (enters ctx room file at next h s inner t)) (noted_in-nil k))
 
-entered-by : (k k2 : UnitTextValue) (note : Note) (last : State → Note) (m : Outcome (List Token)) (t : State) → put_after (noted_in k (note ∷ [])) m ≡ Ok (t, k2)
-    → put_after k (noted (note ∷ []) (onward m (λ toks u. Ok (did toks (last u ∷ []) u)))) ≡ Ok (t, noted_in k2 (last t ∷ []))
-entered-by k k2 note last (Ok d) t h =
+entered-by : (k k2 : UnitTextValue) (note : Note) (last : State → Note) (behind : Option ℕ) (m : Outcome (List Token)) (t : State) → put_after (noted_in k (note ∷ [])) m ≡ Ok (t, k2)
+    → put_after k (noted (note ∷ []) (left_to behind (onward m (λ toks u. Ok (did toks (last u ∷ []) u))))) ≡ Ok (record t { behind = behind }, noted_in k2 (last t ∷ []))
+entered-by k k2 note last behind (Ok d) t h =
     let one = noted_in k (note ∷ []) in
-    ap (λ (x : UnitTextValue). Ok (d.state, put_in x d.value))
+    ap (λ (x : UnitTextValue). Ok (record d.state { behind = behind }, put_in x d.value))
     (noted_in-append k (note ∷ []) (d.notes ++ last d.state ∷ []) ∙ noted_in-append one d.notes (last d.state ∷ []))
-    ∙ ap (λ (r : State × UnitTextValue). Ok (r.0, noted_in r.1 (last r.0 ∷ []))) (done_same (d.state, put_in (noted_in one d.notes) d.value) (t, k2) h)
-entered-by k k2 note last (Err f) t h = absurd (cc)
+    ∙ ap (λ (r : State × UnitTextValue). Ok (record r.0 { behind = behind }, noted_in r.1 (last r.0 ∷ []))) (done_same (d.state, put_in (noted_in one d.notes) d.value) (t, k2) h)
+entered-by k k2 note last behind (Err f) t h = absurd (cc)
 
-enters-fault : (k : UnitTextValue) (note : Note) (m : Outcome (List Token)) (next : List Token → State → Outcome (List Token)) (f : Fault)
-    → put_after (noted_in k (note ∷ [])) m ≡ Err f → put_after k (noted (note ∷ []) (onward m next)) ≡ Err f
-enters-fault k note (Ok d) next f h = absurd (cc)
-enters-fault k note (Err g) next f h = h
+enters-fault : (k : UnitTextValue) (note : Note) (behind : Option ℕ) (m : Outcome (List Token)) (next : List Token → State → Outcome (List Token)) (f : Fault)
+    → put_after (noted_in k (note ∷ [])) m ≡ Err f → put_after k (noted (note ∷ []) (left_to behind (onward m next))) ≡ Err f
+enters-fault k note behind (Ok d) next f h = absurd (cc)
+enters-fault k note behind (Err g) next f h = h
 
 -- the fault of an included file
-pub entered-fault : (process : Process) (at : Pos) (file : SourceFile) (n : ℕ) (s : State) (k : UnitTextValue) (f : Fault) → file.number ≡ n
-    → put_after (noted_in k (Entered at n s.before ∷ [])) (process file s) ≡ Err f → put_after k (entered process at file s) ≡ Err f
-entered-fault process at file n s k f number h =
-    ap (λ (m : ℕ). put_after k (noted (Entered at m s.before ∷ []) (onward (process file s) (λ toks u. Ok (did toks (Exited at m u.before ∷ []) u))))) number
-    ∙ enters-fault k (Entered at n s.before) (process file s) (λ toks u. Ok (did toks (Exited at n u.before ∷ []) u)) f h
+pub entered-fault : (process : Process) (at : Pos) (behind : Option ℕ) (file : SourceFile) (n : ℕ) (s : State) (k : UnitTextValue) (f : Fault) → file.number ≡ n
+    → put_after (noted_in k (Entered at n s.before ∷ [])) (process file (record s { behind = behind })) ≡ Err f → put_after k (entered process at behind file s) ≡ Err f
+entered-fault process at behind file n s k f number h =
+    let m : Outcome (List Token) = process file (record s { behind = behind }) in
+    ap (λ (m_ : ℕ). put_after k (noted (Entered at m_ s.before ∷ []) (left_to s.behind (onward m (λ toks u. Ok (did toks (Exited at m_ u.before ∷ []) u)))))) number
+    ∙ enters-fault k (Entered at n s.before) s.behind m (λ toks u. Ok (did toks (Exited at n u.before ∷ []) u)) f h
 
 -- the items of an included file, entered and left
-pub entered-done : (process : Process) (at : Pos) (file : SourceFile) (n : ℕ) (s t : State) (k k2 : UnitTextValue) → file.number ≡ n
-    → put_after (noted_in k (Entered at n s.before ∷ [])) (process file s) ≡ Ok (t, k2)
-    → put_after k (entered process at file s) ≡ Ok (t, noted_in k2 (Exited at n t.before ∷ []))
-entered-done process at file n s t k k2 number h =
-    ap (λ (m : ℕ). put_after k (noted (Entered at m s.before ∷ []) (onward (process file s) (λ toks u. Ok (did toks (Exited at m u.before ∷ []) u))))) number
-    ∙ entered-by k k2 (Entered at n s.before) (λ (u : State). Exited at n u.before) (process file s) t h
+pub entered-done : (process : Process) (at : Pos) (behind : Option ℕ) (file : SourceFile) (n : ℕ) (s t : State) (k k2 : UnitTextValue) → file.number ≡ n
+    → put_after (noted_in k (Entered at n s.before ∷ [])) (process file (record s { behind = behind })) ≡ Ok (t, k2)
+    → put_after k (entered process at behind file s) ≡ Ok (record t { behind = s.behind }, noted_in k2 (Exited at n t.before ∷ []))
+entered-done process at behind file n s t k k2 number h =
+    let m : Outcome (List Token) = process file (record s { behind = behind }) in
+    ap (λ (m_ : ℕ). put_after k (noted (Entered at m_ s.before ∷ []) (left_to s.behind (onward m (λ toks u. Ok (did toks (Exited at m_ u.before ∷ []) u)))))) number
+    ∙ entered-by k k2 (Entered at n s.before) (λ (u : State). Exited at n u.before) s.behind m t h

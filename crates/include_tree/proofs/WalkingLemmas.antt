@@ -1,12 +1,17 @@
 -- Items and sections, one step at a time.
-use Rattle.std.proofs.Common.{◌≡◌, ℕ, Bool, true, false, List, [], ◌∷◌, drop, length, Option, Some, None, Result, Ok, Err, refl, ◌∙◌, ap, subst}
+use Rattle.std.proofs.Common.{◌≡◌, ℕ, Bool, true, false, List, [], ◌∷◌, drop, length, Option, Some, None, Result, Ok, Err, refl, sym, ◌∙◌, ap, subst}
 use Rattle.std.specs.Prelude.{IfSome}
+use Rattle.std.specs.Result.{IsErrAnd}
 use Rattle.std.proofs.lemmas.List.{append-nil}
 use Rattle.cs_base.specs.Token.{Token}
+use Rattle.cs_base.specs.Answer.{Gives}
+use Rattle.cs_base.specs.Units.{is_gnu}
 use Rattle.cs_base.specs.declared.causes.Cause.{Cause}
 use Rattle.cs_base.specs.declared.positions.Pos.{Pos}
 use Rattle.source_files.specs.Below.line_shape.declared.items.ItemKind.{ItemKind}
 use Rattle.source_files.specs.Below.line_shape.declared.items.ItemKind.TheVariants as item
+use Rattle.source_files.specs.Below.line_shape.declared.items.GnuLine.{GnuLine}
+use Rattle.source_files.specs.Below.line_shape.declared.items.GnuLine.TheVariants as gnu
 use Rattle.source_files.specs.declared.pre_fault.PreFault.{PreFault}
 use Rattle.unit_steps.specs.declared.progress.Progress.{Progress}
 use Rattle.include_tree.specs.declared.item_steps.IncludeLine.{IncludeLine}
@@ -16,18 +21,17 @@ use Rattle.unit_steps.specs.Notes.{Note, Reaches}
 use Rattle.unit_steps.specs.State.{Context, State, Outcome, only, noted, onward}
 use Rattle.include_tree.specs.Sections.{Group, Awaited, Skipped, Section, section, are_processed, is_alive, group_if, Turn, Stays}
 use Rattle.source_files.specs.Search.{Header}
-use Rattle.unit_steps.specs.Conditions.{holds}
-use Rattle.unit_steps.specs.Directives.{opens_with, is_if}
+use Rattle.unit_steps.specs.Directives.{opens_with, goes_with, is_if, define_of, pragma_of}
 use Rattle.include_tree.specs.Including.{Inner, included}
-use Rattle.unit_steps.specs.IncludeNames.{header_named}
-use Rattle.include_tree.specs.Walk.{ItemText, processed, Stepped, stepped, go_on, opens, goes_on, reaching_alive, turned}
+use Rattle.unit_steps.specs.IncludeNames.{header_named, next_named}
+use Rattle.include_tree.specs.Walk.{ItemText, processed_line, processed, Stepped, stepped, go_on, opens, goes_on, reaching_alive, turned, foreign_line}
 use Rattle.unit_steps.specs.Texts.{UnitTextValue}
 use Rattle.source_files.specs.Answers.{fault_of}
 use Rattle.unit_steps.specs.Keeping.{noted_in, put_in, kept_after, put_after}
 use Rattle.unit_steps.specs.Moments.{state_in}
 use Rattle.include_tree.specs.Walking.{stepped_after, with_sections, GivesLine, GivesItem}
-use Rattle.unit_steps.proofs.KeepingLemmas.{noted_in-append, noted_in-nil}
-use Rattle.unit_steps.proofs.GoingLemmas.{put-onward, done_same, err_same}
+use Rattle.unit_steps.proofs.KeepingLemmas.{noted_in-append, noted_in-nil, put-nil}
+use Rattle.unit_steps.proofs.GoingLemmas.{put-onward, put-onward_fault, done_same, err_same}
 
 -- ---- faults
 
@@ -40,7 +44,7 @@ fault_on (Some f) x y h next = next f h
 -- ---- a step behind another
 
 put_noted-nil : (k : UnitTextValue) → put_in (noted_in k []) [] ≡ k
-put_noted-nil k = ap (λ (t : UnitTextValue). put_in t []) (noted_in-nil k) ∙ ap (λ (toks : List Token). record k { toks = toks }) (append-nil k.toks)
+put_noted-nil k = ap (λ (t : UnitTextValue). put_in t []) (noted_in-nil k) ∙ put-nil k
 
 -- nothing is put out, and nothing happens
 pub stepped-only : (k : UnitTextValue) (sections : List Section) (s : State) → stepped_after k (only (stepped [] sections) s) ≡ Ok (sections, s, k)
@@ -125,39 +129,38 @@ module _ (file : SourceFile) (n : ℕ) (i : ItemText) (sections : List Section) 
 -- ---- the next group
 
 pub asked-done : (k k2 : UnitTextValue) (file : SourceFile) (n : ℕ) (i : ItemText) (open_ : Section) (around : List Section) (s : State) (g : Group) (b : Bool) (t : State)
-    → g ≡ Awaited → kept_after (reached_text k file n true s) (holds file i.at (drop 2 i.toks) s) ≡ Ok (b, t, k2)
+    → g ≡ Awaited → kept_after (reached_text k file n true s) (goes_with i.kind file i.at i.toks s) ≡ Ok (b, t, k2)
     → stepped_after k (goes_on file n i open_ around s g) ≡ Ok (section open_.opening (group_if b) false ∷ around, t, k2)
 asked-done k k2 file n i open_ around s g b t is h =
     let next : Bool → State → Outcome Stepped = λ (c : Bool) (u : State). only (go_on open_ (group_if c) false around) u in
-    rw is (stepped-noted k (Reaches file.number n true s.before ∷ []) (onward (holds file i.at (drop 2 i.toks) s) next)
-    ∙ stepped-onward (reached_text k file n true s) k2 (holds file i.at (drop 2 i.toks) s) next b t h
+    rw is (stepped-noted k (Reaches file.number n true s.before ∷ []) (onward (goes_with i.kind file i.at i.toks s) next)
+    ∙ stepped-onward (reached_text k file n true s) k2 (goes_with i.kind file i.at i.toks s) next b t h
     ∙ stepped-only k2 (section open_.opening (group_if b) false ∷ around) t)
 
 pub asked-fault : (k : UnitTextValue) (file : SourceFile) (n : ℕ) (i : ItemText) (open_ : Section) (around : List Section) (s : State) (g : Group) (f : Fault)
-    → g ≡ Awaited → kept_after (reached_text k file n true s) (holds file i.at (drop 2 i.toks) s) ≡ Err f
+    → g ≡ Awaited → kept_after (reached_text k file n true s) (goes_with i.kind file i.at i.toks s) ≡ Err f
     → stepped_after k (goes_on file n i open_ around s g) ≡ Err f
 asked-fault k file n i open_ around s g f is h =
     let next : Bool → State → Outcome Stepped = λ (c : Bool) (u : State). only (go_on open_ (group_if c) false around) u in
-    rw is (stepped-noted k (Reaches file.number n true s.before ∷ []) (onward (holds file i.at (drop 2 i.toks) s) next)
-    ∙ stepped-onward_fault (reached_text k file n true s) (holds file i.at (drop 2 i.toks) s) next f h)
+    rw is (stepped-noted k (Reaches file.number n true s.before ∷ []) (onward (goes_with i.kind file i.at i.toks s) next)
+    ∙ stepped-onward_fault (reached_text k file n true s) (goes_with i.kind file i.at i.toks s) next f h)
 
 -- the same by what is known when the item was reached
-module _ (file : SourceFile) (n : ℕ) (i : ItemText) (open_ : Section) (around : List Section) (table : Table) (p p1 : Progress) (toks : List Token) (is : toks ≡ drop 2 i.toks)
+module _ (file : SourceFile) (n : ℕ) (i : ItemText) (open_ : Section) (around : List Section) (table : Table) (p p1 : Progress)
     (reaches : p1 ≡ record p { text = noted_in p.text (Reaches file.number n true (length p.text.toks) ∷ []) }) where
-  asked-from : (x : Result (Bool × State × UnitTextValue) Fault) → kept_after p1.text (holds file i.at toks (state_in table p1)) ≡ x
-      → kept_after (reached_text p.text file n true (state_in table p)) (holds file i.at (drop 2 i.toks) (state_in table p)) ≡ x
+  asked-from : (x : Result (Bool × State × UnitTextValue) Fault) → kept_after p1.text (goes_with i.kind file i.at i.toks (state_in table p1)) ≡ x
+      → kept_after (reached_text p.text file n true (state_in table p)) (goes_with i.kind file i.at i.toks (state_in table p)) ≡ x
   asked-from x h =
-      subst (λ (ts : List Token). kept_after (reached_text p.text file n true (state_in table p)) (holds file i.at ts (state_in table p)) ≡ x) is
-      (subst (λ (q : Progress). kept_after q.text (holds file i.at toks (state_in table q)) ≡ x) reaches h)
+      subst (λ (q : Progress). kept_after q.text (goes_with i.kind file i.at i.toks (state_in table q)) ≡ x) reaches h
 
-  pub asked-step : (b : Bool) (t : State) (k2 : UnitTextValue) → kept_after p1.text (holds file i.at toks (state_in table p1)) ≡ Ok (b, t, k2)
+  pub asked-step : (b : Bool) (t : State) (k2 : UnitTextValue) → kept_after p1.text (goes_with i.kind file i.at i.toks (state_in table p1)) ≡ Ok (b, t, k2)
       → stepped_after p.text (goes_on file n i open_ around (state_in table p) Awaited) ≡ Ok (section open_.opening (group_if b) false ∷ around, t, k2)
   asked-step b t k2 h = asked-done p.text k2 file n i open_ around (state_in table p) Awaited b t refl (asked-from (Ok (b, t, k2)) h)
 
-  pub asked-step_fault : (found : Option Fault) → IfSome found (λ f. kept_after p1.text (holds file i.at toks (state_in table p1)) ≡ Err f)
+  pub asked-step_fault : (found : Option Fault) → IfSome found (λ f. kept_after p1.text (goes_with i.kind file i.at i.toks (state_in table p1)) ≡ Err f)
       → IfSome found (λ f. stepped_after p.text (goes_on file n i open_ around (state_in table p) Awaited) ≡ Err f)
   asked-step_fault found h =
-      fault_on found (kept_after p1.text (holds file i.at toks (state_in table p1))) (stepped_after p.text (goes_on file n i open_ around (state_in table p) Awaited)) h
+      fault_on found (kept_after p1.text (goes_with i.kind file i.at i.toks (state_in table p1))) (stepped_after p.text (goes_on file n i open_ around (state_in table p) Awaited)) h
       (λ f same. asked-fault p.text file n i open_ around (state_in table p) Awaited f refl (asked-from (Err f) same))
 
 pub skipped-on : (k : UnitTextValue) (file : SourceFile) (n : ℕ) (i : ItemText) (open_ : Section) (around : List Section) (s : State) (g : Group)
@@ -210,28 +213,80 @@ stays-step ctx inner file n i sections table p p1 r t k2 reaches inside h =
 
 pub include-step : (ctx : Context) (inner : Inner) (file : SourceFile) (kind : ItemKind) (at : Pos) (toks behind : List Token) (s : State) (k k2 : UnitTextValue) (h : Header) (t : State)
     → kind ≡ item.Include → behind ≡ drop 2 toks → kept_after k (header_named file at behind s) ≡ Ok (h, t, k2)
-    → put_after k (processed ctx inner file kind at toks s) ≡ put_after k2 (included ctx inner file at h t)
+    → put_after k (processed ctx inner file kind at toks s) ≡ put_after k2 (included ctx inner file at false h t)
 include-step ctx inner file kind at toks behind s k k2 h t is same named =
     ap (λ (x : ItemKind). put_after k (processed ctx inner file x at toks s)) is
-    ∙ put-onward k k2 (header_named file at (drop 2 toks) s) (included ctx inner file at) h t
+    ∙ put-onward k k2 (header_named file at (drop 2 toks) s) (included ctx inner file at false) h t
     (subst (λ (ts : List Token). kept_after k (header_named file at ts s) ≡ Ok (h, t, k2)) same named)
+
+pub include-next-step : (ctx : Context) (inner : Inner) (line : GnuLine) (file : SourceFile) (at : Pos) (toks behind : List Token) (s : State) (k k2 : UnitTextValue) (h : Header) (t : State)
+    → line ≡ gnu.IncludeNext → behind ≡ drop 2 toks → kept_after k (next_named file at behind s) ≡ Ok (h, t, k2)
+    → put_after k (processed_line ctx inner line file at toks s) ≡ put_after k2 (included ctx inner file at true h t)
+include-next-step ctx inner line file at toks behind s k k2 h t is same named =
+    ap (λ (x : GnuLine). put_after k (processed_line ctx inner x file at toks s)) is
+    ∙ put-onward k k2 (next_named file at (drop 2 toks) s) (included ctx inner file at true) h t
+    (subst (λ (ts : List Token). kept_after k (next_named file at ts s) ≡ Ok (h, t, k2)) same named)
+
+-- a fault that is handed on
+pub line-stopped : (ctx : Context) (inner : Inner) (file : SourceFile) (e : PreFault) (r : Result (Option IncludeLine) PreFault) (t : State) (k2 : UnitTextValue) (expected : Result (State × UnitTextValue) Fault)
+    → IsErrAnd r (λ x. x ≡ e) → IfSome (fault_of e) (λ f. expected ≡ Err f) → GivesLine ctx inner file r t k2 expected
+line-stopped ctx inner file e (Ok line) t k2 expected same h = absurd same
+line-stopped ctx inner file e (Err x) t k2 expected same h = subst (λ (y : PreFault). IfSome (fault_of y) (λ f. expected ≡ Err f)) (sym same) h
+
+pub include-next-stopped : (ctx : Context) (inner : Inner) (line : GnuLine) (file : SourceFile) (at : Pos) (toks behind : List Token) (s : State) (k : UnitTextValue) (found : Option Fault)
+    → line ≡ gnu.IncludeNext → behind ≡ drop 2 toks → IfSome found (λ f. kept_after k (next_named file at behind s) ≡ Err f)
+    → IfSome found (λ f. put_after k (processed_line ctx inner line file at toks s) ≡ Err f)
+include-next-stopped ctx inner line file at toks behind s k found is same h =
+    fault_on found (kept_after k (next_named file at behind s)) (put_after k (processed_line ctx inner line file at toks s)) h
+    (λ f stops. ap (λ (x : GnuLine). put_after k (processed_line ctx inner x file at toks s)) is
+    ∙ put-onward_fault k (next_named file at (drop 2 toks) s) (included ctx inner file at true) f
+    (subst (λ (ts : List Token). kept_after k (next_named file at ts s) ≡ Err f) same stops))
+
+-- a `define` line
+pub define-step : (ctx : Context) (inner : Inner) (file : SourceFile) (kind : ItemKind) (at : Pos) (toks : List Token) (s : State) (k : UnitTextValue) (r : Result (Unit {0}) PreFault) (t : State)
+    (k2 : UnitTextValue) (gnu : Bool) → kind ≡ item.Define → gnu ≡ is_gnu ctx.unit.standard
+    → Gives (λ _. (t, k2)) fault_of r (put_after k (define_of gnu file at toks s)) → Gives (λ _. (t, k2)) fault_of r (put_after k (processed ctx inner file kind at toks s))
+define-step ctx inner file kind at toks s k r t k2 gnu is same h =
+    subst (λ (i : ItemKind). Gives (λ _. (t, k2)) fault_of r (put_after k (processed ctx inner file i at toks s))) (sym is)
+    (subst (λ (b : Bool). Gives (λ _. (t, k2)) fault_of r (put_after k (define_of b file at toks s))) same h)
+
+-- a `pragma` line
+pub pragma-step : (ctx : Context) (inner : Inner) (file : SourceFile) (kind : ItemKind) (at : Pos) (toks : List Token) (s : State) (k : UnitTextValue) (x : Result (State × UnitTextValue) Fault) (gnu : Bool)
+    → kind ≡ item.Pragma → gnu ≡ is_gnu ctx.unit.standard → put_after k (pragma_of gnu file at toks s) ≡ x → put_after k (processed ctx inner file kind at toks s) ≡ x
+pragma-step ctx inner file kind at toks s k x gnu is same h =
+    ap (λ (i : ItemKind). put_after k (processed ctx inner file i at toks s)) is
+    ∙ ap (λ (b : Bool). put_after k (pragma_of b file at toks s)) (sym same) ∙ h
+
+-- a line that GNU C alone has, in a unit of another standard
+pub foreign-step : (file : SourceFile) (i : ItemText) (sections : List Section) (s : State) (k : UnitTextValue) → are_processed sections ≡ false
+    → stepped_after k (foreign_line file i sections s) ≡ Ok (sections, s, k)
+foreign-step file i sections s k skipped = rw skipped (stepped-only k sections s)
+
+-- a line that GNU C alone has and that asks for no file gives nothing
+pub line-rest : (ctx : Context) (inner : Inner) (line : GnuLine) (file : SourceFile) (at : Pos) (toks : List Token) (s : State) (k : UnitTextValue)
+    → (line ≡ gnu.IncludeNext → ⊥) → put_after k (processed_line ctx inner line file at toks s) ≡ Ok (s, k)
+line-rest ctx inner gnu.IncludeNext file at toks s k other = absurd (other refl)
+line-rest ctx inner gnu.Message file at toks s k other = put-only k s
+line-rest ctx inner gnu.Elifdef file at toks s k other = put-only k s
+line-rest ctx inner gnu.Elifndef file at toks s k other = put-only k s
 
 -- an item of any other kind gives nothing
 pub processed-rest : (ctx : Context) (inner : Inner) (file : SourceFile) (kind : ItemKind) (at : Pos) (toks : List Token) (s : State) (k : UnitTextValue) → (kind ≡ item.Run → ⊥)
     → (kind ≡ item.Define → ⊥) → (kind ≡ item.Undef → ⊥) → (kind ≡ item.Include → ⊥) → (kind ≡ item.Error → ⊥)
-    → ((cause : Cause) (place : Pos) (nests : Bool) → kind ≡ item.Bad cause place nests → ⊥) → put_after k (processed ctx inner file kind at toks s) ≡ Ok (s, k)
-processed-rest ctx inner file item.Run at toks s k a b c d e f = absurd (a refl)
-processed-rest ctx inner file item.Define at toks s k a b c d e f = absurd (b refl)
-processed-rest ctx inner file item.Undef at toks s k a b c d e f = absurd (c refl)
-processed-rest ctx inner file item.Include at toks s k a b c d e f = absurd (d refl)
-processed-rest ctx inner file item.Error at toks s k a b c d e f = absurd (e refl)
-processed-rest ctx inner file (item.Bad cause place nests) at toks s k a b c d e f = absurd (f cause place nests refl)
-processed-rest ctx inner file item.If at toks s k a b c d e f = put-only k s
-processed-rest ctx inner file item.Ifdef at toks s k a b c d e f = put-only k s
-processed-rest ctx inner file item.Ifndef at toks s k a b c d e f = put-only k s
-processed-rest ctx inner file item.Elif at toks s k a b c d e f = put-only k s
-processed-rest ctx inner file item.Else at toks s k a b c d e f = put-only k s
-processed-rest ctx inner file item.Endif at toks s k a b c d e f = put-only k s
-processed-rest ctx inner file item.Line at toks s k a b c d e f = put-only k s
-processed-rest ctx inner file item.Pragma at toks s k a b c d e f = put-only k s
-processed-rest ctx inner file item.Empty at toks s k a b c d e f = put-only k s
+    → ((cause : Cause) (place : Pos) (nests : Bool) → kind ≡ item.Bad cause place nests → ⊥) → ((line : GnuLine) → kind ≡ item.Gnu line → ⊥) → (kind ≡ item.Pragma → ⊥) → put_after k (processed ctx inner file kind at toks s) ≡ Ok (s, k)
+processed-rest ctx inner file item.Run at toks s k a b c d e f g p = absurd (a refl)
+processed-rest ctx inner file item.Define at toks s k a b c d e f g p = absurd (b refl)
+processed-rest ctx inner file item.Undef at toks s k a b c d e f g p = absurd (c refl)
+processed-rest ctx inner file item.Include at toks s k a b c d e f g p = absurd (d refl)
+processed-rest ctx inner file item.Error at toks s k a b c d e f g p = absurd (e refl)
+processed-rest ctx inner file (item.Bad cause place nests) at toks s k a b c d e f g p = absurd (f cause place nests refl)
+processed-rest ctx inner file (item.Gnu line) at toks s k a b c d e f g p = absurd (g line refl)
+processed-rest ctx inner file item.If at toks s k a b c d e f g p = put-only k s
+processed-rest ctx inner file item.Ifdef at toks s k a b c d e f g p = put-only k s
+processed-rest ctx inner file item.Ifndef at toks s k a b c d e f g p = put-only k s
+processed-rest ctx inner file item.Elif at toks s k a b c d e f g p = put-only k s
+processed-rest ctx inner file item.Else at toks s k a b c d e f g p = put-only k s
+processed-rest ctx inner file item.Endif at toks s k a b c d e f g p = put-only k s
+processed-rest ctx inner file item.Line at toks s k a b c d e f g p = put-only k s
+processed-rest ctx inner file item.Pragma at toks s k a b c d e f g p = absurd (p refl)
+processed-rest ctx inner file item.Empty at toks s k a b c d e f g p = put-only k s

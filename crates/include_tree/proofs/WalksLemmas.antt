@@ -1,20 +1,22 @@
 -- The walk over files that hold what a source holds, one call at a time.
-use Rattle.std.proofs.Common.{◌≡◌, ℕ, ◌+◌, ◌-◌, ◌<◌, ◌≤◌, List, [], ◌∷◌, drop, length, Option, Some, None, Result, Ok, Err, refl, sym, ◌∙◌, ap, subst, arith}
+use Rattle.std.proofs.Common.{◌≡◌, ℕ, ◌+◌, ◌-◌, ◌<◌, ◌≤◌, Bool, true, false, List, [], ◌∷◌, drop, length, Option, Some, None, Result, Ok, Err, refl, sym, ◌∙◌, ap, subst, arith}
 use Rattle.std.specs.Prelude.{IfSome, slice_get}
 use Rattle.cs_base.specs.Answer.{Gives}
 use Rattle.cs_base.specs.declared.positions.Pos.{Pos}
+use Rattle.cs_base.specs.declared.ws_units.Standard.{Standard}
 use Rattle.cs_base.specs.Units.{UnitValue}
 use Rattle.source_files.specs.declared.pre_fault.PreFault.{PreFault}
 use Rattle.unit_steps.specs.declared.progress.Progress.{Progress}
 use Rattle.include_tree.specs.declared.item_steps.IncludeLine.{IncludeLine}
 use Rattle.source_files.specs.Files.{Source, Table, SourceFile}
 use Rattle.source_files.specs.Faults.{Fault}
-use Rattle.unit_steps.specs.Notes.{Entered, Exited}
+use Rattle.unit_steps.specs.Notes.{Entered, Exited, ReadOnce}
+use Rattle.unit_steps.specs.Directives.{is_read_once}
 use Rattle.unit_steps.specs.State.{Context, State}
 use Rattle.include_tree.specs.Sections.{Section}
-use Rattle.source_files.specs.Search.{Header}
+use Rattle.source_files.specs.Search.{Header, behind_of}
 use Rattle.unit_steps.specs.Expanding.{most_toks}
-use Rattle.include_tree.specs.Including.{Inner, open_header, entered, included}
+use Rattle.include_tree.specs.Including.{Inner, open_header, entered, unless_once, included}
 use Rattle.include_tree.specs.Walk.{ItemText, items_in, item_step, file_end, walk, file_items}
 use Rattle.unit_steps.specs.Texts.{UnitTextValue}
 use Rattle.source_files.specs.Sources.{source_at, unit_most}
@@ -23,9 +25,10 @@ use Rattle.source_files.specs.Answers.{fault_of}
 use Rattle.unit_steps.specs.Keeping.{noted_in, put_after}
 use Rattle.unit_steps.specs.Moments.{state_in}
 use Rattle.include_tree.specs.Walking.{stepped_after, with_sections, inner_in, GivesItem}
+use Rattle.unit_steps.proofs.KeepingLemmas.{put-nil}
 use Rattle.include_tree.proofs.StayingLemmas.{some_all, some_three, some_at, source-number}
 use Rattle.include_tree.proofs.WalkingLemmas.{fault_on}
-use Rattle.include_tree.proofs.WalkedLemmas.{some-more, some-fault, walk-end, items-walk, included-fault, included-open, entered-fault, entered-done}
+use Rattle.include_tree.proofs.WalkedLemmas.{place_of, some-more, some-fault, walk-end, items-walk, included-fault, included-open, entered-fault, entered-done}
 
 -- ---- what is known under a call's answers
 
@@ -42,100 +45,136 @@ gives-along r s k x y is h = subst (λ (z : Result (State × UnitTextValue) Faul
 
 -- an item that is no include line, or whose own part has a fault
 pub item-told : (source : Source) (q : Option SourceFile) (unit : UnitValue) (toks most room k : ℕ) (sections more : List Section) (s t : State) (text new : UnitTextValue)
-    (r : Result (Option IncludeLine) PreFault) → most ≡ unit_most toks
-    → ((ctx : Context) (inner : Inner) → most_toks ctx ≡ most
+    (r : Result (Option IncludeLine) PreFault) (standard : Standard) → most ≡ unit_most toks → standard ≡ unit.standard
+    → ((ctx : Context) (inner : Inner) → most_toks ctx ≡ most → ctx.unit.standard ≡ standard
     → IfSome q (λ file. IfSome (slice_get (items_in file) k) (λ i. GivesItem ctx inner file r more t new (stepped_after text (item_step ctx inner file k i sections s)))))
     → IfSome q (λ file. IfSome (slice_get (items_in file) k) (λ i.
     GivesItem (unit_context source unit toks) (inner_in (unit_context source unit toks) room) file r more t new
     (stepped_after text (item_step (unit_context source unit toks) (inner_in (unit_context source unit toks) room) file k i sections s))))
-item-told source q unit toks most room k sections more s t text new r limit h =
-    h (unit_context source unit toks) (inner_in (unit_context source unit toks) room) (sym limit)
+item-told source q unit toks most room k sections more s t text new r standard limit is h =
+    h (unit_context source unit toks) (inner_in (unit_context source unit toks) room) (sym limit) (sym is)
 
 item-of : (ctx : Context) (inner : Inner) (file : SourceFile) (z : Option ItemText) (k : ℕ) (sections more : List Section) (s t u : State) (text new newer : UnitTextValue)
     (line : IncludeLine) (r : Result (Unit {0}) PreFault)
     → IfSome z (λ i. GivesItem ctx inner file (Ok (Some line)) more t new (stepped_after text (item_step ctx inner file k i sections s)))
-    → Gives (λ _. (u, newer)) fault_of r (put_after new (included ctx inner file line.at line.header t))
+    → Gives (λ _. (u, newer)) fault_of r (put_after new (included ctx inner file line.at line.next line.header t))
     → IfSome z (λ i. Gives (λ _. (more, u, newer)) fault_of r (stepped_after text (item_step ctx inner file k i sections s)))
 item-of ctx inner file None k sections more s t u text new newer line r h g = tt
 item-of ctx inner file (Some i) k sections more s t u text new newer line r h g =
-    gives-sections r more u newer (put_after new (included ctx inner file line.at line.header t)) (stepped_after text (item_step ctx inner file k i sections s)) h g
+    gives-sections r more u newer (put_after new (included ctx inner file line.at line.next line.header t)) (stepped_after text (item_step ctx inner file k i sections s)) h g
 
 -- an include line whose file took its place
 pub item-included : (source : Source) (q : Option SourceFile) (unit : UnitValue) (toks most room k : ℕ) (sections more : List Section) (s t u : State) (text new newer : UnitTextValue)
-    (line : IncludeLine) (r : Result (Unit {0}) PreFault) → most ≡ unit_most toks
-    → ((ctx : Context) (inner : Inner) → most_toks ctx ≡ most
+    (line : IncludeLine) (r : Result (Unit {0}) PreFault) (standard : Standard) → most ≡ unit_most toks → standard ≡ unit.standard
+    → ((ctx : Context) (inner : Inner) → most_toks ctx ≡ most → ctx.unit.standard ≡ standard
     → IfSome q (λ file. IfSome (slice_get (items_in file) k) (λ i. GivesItem ctx inner file (Ok (Some line)) more t new (stepped_after text (item_step ctx inner file k i sections s)))))
     → IfSome q (λ file. Gives (λ _. (u, newer)) fault_of r
-    (put_after new (included (unit_context source unit toks) (inner_in (unit_context source unit toks) room) file line.at line.header t)))
+    (put_after new (included (unit_context source unit toks) (inner_in (unit_context source unit toks) room) file line.at line.next line.header t)))
     → IfSome q (λ file. IfSome (slice_get (items_in file) k) (λ i. Gives (λ _. (more, u, newer)) fault_of r
     (stepped_after text (item_step (unit_context source unit toks) (inner_in (unit_context source unit toks) room) file k i sections s))))
-item-included source None unit toks most room k sections more s t u text new newer line r limit h g = tt
-item-included source (Some file) unit toks most room k sections more s t u text new newer line r limit h g =
+item-included source None unit toks most room k sections more s t u text new newer line r standard limit is h g = tt
+item-included source (Some file) unit toks most room k sections more s t u text new newer line r standard limit is h g =
     item-of (unit_context source unit toks) (inner_in (unit_context source unit toks) room) file (slice_get (items_in file) k) k sections more s t u text new newer line r
-    (h (unit_context source unit toks) (inner_in (unit_context source unit toks) room) (sym limit)) g
+    (h (unit_context source unit toks) (inner_in (unit_context source unit toks) room) (sym limit) (sym is)) g
 
 -- ---- an include line
 
-pub include-fault : (source : Source) (q : Option SourceFile) (unit : UnitValue) (toks room : ℕ) (at : Pos) (h : Header) (s : State) (k : UnitTextValue) (e : PreFault) (table : Table)
+pub include-fault : (source : Source) (q : Option SourceFile) (unit : UnitValue) (toks room : ℕ) (at : Pos) (next : Bool) (h : Header) (s : State) (k : UnitTextValue) (e : PreFault) (table : Table)
     → 0 < room
-    → IfSome q (λ file. (t : State) → t.table ≡ s.table → GivesFile (Err e) (open_header (unit_context source unit toks) file at h t) table t)
+    → IfSome q (λ file. (t : State) → t.table ≡ s.table → t.behind ≡ s.behind → GivesFile (Err e) (open_header (unit_context source unit toks) file at next h t) table t)
     → IfSome q (λ file. IfSome (fault_of e) (λ f.
-    put_after k (included (unit_context source unit toks) (inner_in (unit_context source unit toks) room) file at h s) ≡ Err f))
-include-fault source None unit toks room at h s k e table some g = tt
-include-fault source (Some file) unit toks room at h s k e table some g =
-    fault_on (fault_of e) (open_header (unit_context source unit toks) file at h s) (put_after k (included (unit_context source unit toks) (inner_in (unit_context source unit toks) room) file at h s))
-    (g s refl) (λ f is. included-fault (unit_context source unit toks) room file at h s k f some is)
+    put_after k (included (unit_context source unit toks) (inner_in (unit_context source unit toks) room) file at next h s) ≡ Err f))
+include-fault source None unit toks room at next h s k e table some g = tt
+include-fault source (Some file) unit toks room at next h s k e table some g =
+    fault_on (fault_of e) (open_header (unit_context source unit toks) file at next h s) (put_after k (included (unit_context source unit toks) (inner_in (unit_context source unit toks) room) file at next h s))
+    (g s refl refl) (λ f is. included-fault (unit_context source unit toks) room file at next h s k f some is)
 
-open-of : (ctx : Context) (room : ℕ) (file : SourceFile) (at : Pos) (h : Header) (s u : State) (k new : UnitTextValue) (table : Table) (n : ℕ) (r : Result (Unit {0}) PreFault) → 0 < room
-    → GivesFile (Ok n) (open_header ctx file at h s) table s
-    → IfSome (source_at table n) (λ inner. Gives (λ _. (u, new)) fault_of r (put_after k (entered (file_items ctx (room - 1)) at inner (record s { table = table }))))
-    → Gives (λ _. (u, new)) fault_of r (put_after k (included ctx (inner_in ctx room) file at h s))
-open-of ctx room file at h s u k new table n r some g e =
-    gives-along r u new (put_after k (entered (file_items ctx (room - 1)) at g.0 (record s { table = table }))) (put_after k (included ctx (inner_in ctx room) file at h s))
-    (included-open ctx room file at h s k g.0 (record s { table = table }) some g.2)
-    (subst (λ (o : Option SourceFile). IfSome o (λ inner. Gives (λ _. (u, new)) fault_of r (put_after k (entered (file_items ctx (room - 1)) at inner (record s { table = table }))))) g.1 e)
+-- what the items of an included file give, in which a search for the next file of a name begins there
+abbrev EntersSo : Context → ℕ → Pos → Option ℕ → State → State → UnitTextValue → UnitTextValue → Result (Unit {0}) PreFault → SourceFile → Type 0
+EntersSo ctx room at behind t u k new r inner = Gives (λ _. (u, new)) fault_of r (put_after k (entered (unless_once at (file_items ctx (room - 1))) at behind inner t))
 
-pub include-open : (source : Source) (q : Option SourceFile) (unit : UnitValue) (toks toks1 room : ℕ) (at : Pos) (h : Header) (s u : State) (k new : UnitTextValue) (table : Table) (n : ℕ)
-    (r : Result (Unit {0}) PreFault) → 0 < room → toks1 ≡ toks
-    → IfSome q (λ file. (t : State) → t.table ≡ s.table → GivesFile (Ok n) (open_header (unit_context source unit toks) file at h t) table t)
-    → IfSome (source_at table n) (λ inner. Gives (λ _. (u, new)) fault_of r
-    (put_after k (entered (file_items (unit_context source unit toks1) (room - 1)) at inner (record s { table = table }))))
+open-of : (ctx : Context) (room : ℕ) (file : SourceFile) (at : Pos) (next : Bool) (h : Header) (behind : Option ℕ) (s u : State) (k new : UnitTextValue) (table : Table) (n : ℕ) (r : Result (Unit {0}) PreFault) → 0 < room
+    → GivesFile (Ok n) (open_header ctx file at next h s) table s
+    → IfSome (source_at table n) (λ inner. behind ≡ place_of ctx file next h s inner)
+    → IfSome (source_at table n) (EntersSo ctx room at behind (record s { table = table }) u k new r)
+    → Gives (λ _. (u, new)) fault_of r (put_after k (included ctx (inner_in ctx room) file at next h s))
+open-of ctx room file at next h behind s u k new table n r some g begins e =
+    let t : State = record s { table = table } in
+    let there : behind ≡ place_of ctx file next h s g.0 = subst (λ (o : Option SourceFile). IfSome o (λ inner. behind ≡ place_of ctx file next h s inner)) g.1 begins in
+    let enters : EntersSo ctx room at behind t u k new r g.0 = subst (λ (o : Option SourceFile). IfSome o (EntersSo ctx room at behind t u k new r)) g.1 e in
+    gives-along r u new (put_after k (entered (unless_once at (file_items ctx (room - 1))) at (place_of ctx file next h s g.0) g.0 t)) (put_after k (included ctx (inner_in ctx room) file at next h s))
+    (included-open ctx room file at next h s k g.0 t some g.2)
+    (subst (λ (b : Option ℕ). EntersSo ctx room at b t u k new r g.0) there enters)
+
+pub include-open : (source : Source) (q q1 : Option SourceFile) (unit : UnitValue) (toks toks1 room : ℕ) (at : Pos) (next : Bool) (h : Header) (behind : Option ℕ) (s u : State) (k new : UnitTextValue) (table : Table) (n : ℕ)
+    (r : Result (Unit {0}) PreFault) → 0 < room → toks1 ≡ toks → q1 ≡ q
+    → IfSome q (λ file. (t : State) → t.table ≡ s.table → t.behind ≡ s.behind → GivesFile (Ok n) (open_header (unit_context source unit toks) file at next h t) table t)
+    → IfSome q1 (λ file. IfSome (source_at table n) (λ inner. behind ≡ behind_of next h s.behind file.path unit inner.path))
+    → IfSome (source_at table n) (EntersSo (unit_context source unit toks1) room at behind (record s { table = table }) u k new r)
     → IfSome q (λ file. Gives (λ _. (u, new)) fault_of r
-    (put_after k (included (unit_context source unit toks) (inner_in (unit_context source unit toks) room) file at h s)))
-include-open source None unit toks toks1 room at h s u k new table n r some count g e = tt
-include-open source (Some file) unit toks toks1 room at h s u k new table n r some count g e =
-    open-of (unit_context source unit toks) room file at h s u k new table n r some (g s refl)
-    (subst (λ (c : ℕ). IfSome (source_at table n) (λ inner. Gives (λ _. (u, new)) fault_of r
-    (put_after k (entered (file_items (unit_context source unit c) (room - 1)) at inner (record s { table = table }))))) count e)
+    (put_after k (included (unit_context source unit toks) (inner_in (unit_context source unit toks) room) file at next h s)))
+include-open source None q1 unit toks toks1 room at next h behind s u k new table n r some count same g begins e = tt
+include-open source (Some file) q1 unit toks toks1 room at next h behind s u k new table n r some count same g begins e =
+    open-of (unit_context source unit toks) room file at next h behind s u k new table n r some (g s refl refl)
+    (subst (λ (o : Option SourceFile). IfSome o (λ f. IfSome (source_at table n) (λ inner. behind ≡ behind_of next h s.behind f.path unit inner.path))) same begins)
+    (subst (λ (c : ℕ). IfSome (source_at table n) (EntersSo (unit_context source unit c) room at behind (record s { table = table }) u k new r)) count e)
 
 -- ---- a file that is entered and left
 
-module _ (unit : UnitValue) (toks room : ℕ) (table : Table) (n : ℕ) (at : Pos) (p0 p1 : Progress)
+module _ (unit : UnitValue) (toks room : ℕ) (table : Table) (n : ℕ) (at : Pos) (behind : Option ℕ) (p0 p1 : Progress)
     (enters : p1 ≡ record p0 { text = noted_in p0.text (Entered at n (length p0.text.toks) ∷ []) }) where
-  enter-of : (source : Source) (file : SourceFile) (x : Result (State × UnitTextValue) Fault)
-      → put_after p1.text (file_items (unit_context source unit toks) room file (state_in table p1)) ≡ x
-      → put_after (noted_in p0.text (Entered at n (length p0.text.toks) ∷ [])) (file_items (unit_context source unit toks) room file (state_in table p0)) ≡ x
-  enter-of source file x h =
-      subst (λ (p : Progress). put_after p.text (file_items (unit_context source unit toks) room file (state_in table p)) ≡ x) enters h
+  -- the items of a file, in which a search for the next file of a name begins there
+  abbrev inside : Source → SourceFile → Progress → UnitTextValue → Result (State × UnitTextValue) Fault
+  inside source file p text = put_after text (unless_once at (file_items (unit_context source unit toks) room) file (record (state_in table p) { behind = behind }))
 
-  pub enter-done : (source : Source) (table2 : Table) (p2 p3 : Progress) → p3 ≡ record p2 { text = noted_in p2.text (Exited at n (length p2.text.toks) ∷ []) }
-      → IfSome (source_at table n) (λ file. put_after p1.text (file_items (unit_context source unit toks) room file (state_in table p1)) ≡ Ok (state_in table2 p2, p2.text))
-      → IfSome (source_at table n) (λ file. put_after p0.text (entered (file_items (unit_context source unit toks) room) at file (state_in table p0)) ≡ Ok (state_in table2 p3, p3.text))
+  abbrev around : Source → SourceFile → Result (State × UnitTextValue) Fault
+  around source file = put_after p0.text (entered (unless_once at (file_items (unit_context source unit toks) room)) at behind file (state_in table p0))
+
+  enter-of : (source : Source) (file : SourceFile) (x : Result (State × UnitTextValue) Fault) → inside source file p1 p1.text ≡ x
+      → inside source file p0 (noted_in p0.text (Entered at n (length p0.text.toks) ∷ [])) ≡ x
+  enter-of source file x h = subst (λ (p : Progress). inside source file p p.text ≡ x) enters h
+
+  pub enter-done : (source : Source) (table2 : Table) (p2 p3 : Progress)
+      → p3 ≡ record p2 { text = noted_in p2.text (Exited at n (length p2.text.toks) ∷ []); behind = p1.behind }
+      → IfSome (source_at table n) (λ file. inside source file p1 p1.text ≡ Ok (state_in table2 p2, p2.text))
+      → IfSome (source_at table n) (λ file. around source file ≡ Ok (state_in table2 p3, p3.text))
   enter-done source table2 p2 p3 leaves h =
-      some_at (source_at table n) (λ file. put_after p1.text (file_items (unit_context source unit toks) room file (state_in table p1)) ≡ Ok (state_in table2 p2, p2.text))
-      (λ file. put_after p0.text (entered (file_items (unit_context source unit toks) room) at file (state_in table p0)) ≡ Ok (state_in table2 p3, p3.text)) h
-      (λ file is e. entered-done (file_items (unit_context source unit toks) room) at file n (state_in table p0) (state_in table2 p2) p0.text p2.text (source-number table n file is)
-      (enter-of source file (Ok (state_in table2 p2, p2.text)) e) ∙ ap (λ (p : Progress). Ok (state_in table2 p, p.text)) (sym leaves))
+      let last : UnitTextValue = noted_in p2.text (Exited at n (length p2.text.toks) ∷ []) in
+      let same : p0.behind ≡ p1.behind = ap (λ (p : Progress). p.behind) (sym enters) in
+      some_at (source_at table n) (λ file. inside source file p1 p1.text ≡ Ok (state_in table2 p2, p2.text)) (λ file. around source file ≡ Ok (state_in table2 p3, p3.text)) h
+      (λ file is e. entered-done (unless_once at (file_items (unit_context source unit toks) room)) at behind file n (state_in table p0) (state_in table2 p2) p0.text p2.text (source-number table n file is)
+      (enter-of source file (Ok (state_in table2 p2, p2.text)) e)
+      ∙ ap (λ (b : Option ℕ). Ok (record (state_in table2 p2) { behind = b }, last)) same
+      ∙ ap (λ (p : Progress). Ok (state_in table2 p, p.text)) (sym leaves))
 
   pub enter-fault : (source : Source) (found : Option Fault)
-      → IfSome (source_at table n) (λ file. IfSome found (λ f. put_after p1.text (file_items (unit_context source unit toks) room file (state_in table p1)) ≡ Err f))
-      → IfSome (source_at table n) (λ file. IfSome found (λ f. put_after p0.text (entered (file_items (unit_context source unit toks) room) at file (state_in table p0)) ≡ Err f))
+      → IfSome (source_at table n) (λ file. IfSome found (λ f. inside source file p1 p1.text ≡ Err f))
+      → IfSome (source_at table n) (λ file. IfSome found (λ f. around source file ≡ Err f))
   enter-fault source found h =
-      some_at (source_at table n) (λ file. IfSome found (λ f. put_after p1.text (file_items (unit_context source unit toks) room file (state_in table p1)) ≡ Err f))
-      (λ file. IfSome found (λ f. put_after p0.text (entered (file_items (unit_context source unit toks) room) at file (state_in table p0)) ≡ Err f)) h
-      (λ file is e. fault_on found (put_after p1.text (file_items (unit_context source unit toks) room file (state_in table p1)))
-      (put_after p0.text (entered (file_items (unit_context source unit toks) room) at file (state_in table p0))) e
-      (λ f same. entered-fault (file_items (unit_context source unit toks) room) at file n (state_in table p0) p0.text f (source-number table n file is) (enter-of source file (Err f) same)))
+      some_at (source_at table n) (λ file. IfSome found (λ f. inside source file p1 p1.text ≡ Err f)) (λ file. IfSome found (λ f. around source file ≡ Err f)) h
+      (λ file is e. fault_on found (inside source file p1 p1.text) (around source file) e
+      (λ f same. entered-fault (unless_once at (file_items (unit_context source unit toks) room)) at behind file n (state_in table p0) p0.text f (source-number table n file is) (enter-of source file (Err f) same)))
+
+-- ---- a file that is read once
+
+module _ (source : Source) (unit : UnitValue) (toks room n : ℕ) (at : Pos) (s t : State) (k k2 : UnitTextValue) where
+  -- it was read
+  pub once-passed : (q : Option SourceFile) → ((file : SourceFile) → q ≡ Some file → file.number ≡ n) → is_read_once n s ≡ true
+      → t ≡ s → k2 ≡ noted_in k (ReadOnce true at n s.before ∷ [])
+      → IfSome q (λ file. put_after k (unless_once at (file_items (unit_context source unit toks) room) file s) ≡ Ok (t, k2))
+  once-passed None number is same noted = tt
+  once-passed (Some file) number is same noted =
+      rw (number file refl, is)
+      (ap (λ (x : UnitTextValue). Ok (s, x)) (put-nil (noted_in k (ReadOnce true at n s.before ∷ [])) ∙ sym noted) ∙ ap (λ (u : State). Ok (u, k2)) (sym same))
+
+  -- it was not
+  pub once-read : (q : Option SourceFile) (r : Result (Unit {0}) PreFault) → ((file : SourceFile) → q ≡ Some file → file.number ≡ n) → is_read_once n s ≡ false
+      → IfSome q (λ file. Gives (λ _. (t, k2)) fault_of r (put_after k (file_items (unit_context source unit toks) room file s)))
+      → IfSome q (λ file. Gives (λ _. (t, k2)) fault_of r (put_after k (unless_once at (file_items (unit_context source unit toks) room) file s)))
+  once-read None r number is h = tt
+  once-read (Some file) r number is h =
+      let same : is_read_once file.number s ≡ false = ap (λ (i : ℕ). is_read_once i s) (number file refl) ∙ is in
+      rw same h
 
 -- ---- the items of a file
 

@@ -2,7 +2,8 @@
 use Rattle.std.specs.Prelude.{Bool, true, false, if◌then◌else◌, List, [], ◌∷◌}
 use Rattle.cs_base.specs.declared.positions.Pos.{Pos}
 use Rattle.source_files.specs.Below.line_shape.declared.items.ItemKind.{ItemKind}
-use Rattle.source_files.specs.Below.line_shape.declared.items.ItemKind.TheVariants.{If, Ifdef, Ifndef, Elif, Else, Endif, Bad}
+use Rattle.source_files.specs.Below.line_shape.declared.items.ItemKind.TheVariants.{If, Ifdef, Ifndef, Elif, Else, Endif, Bad, Gnu}
+use Rattle.source_files.specs.Below.line_shape.Directives.{is_elif}
 
 -- How it stands with the groups of a section: the present one is processed; none was yet; one was, and
 -- the rest are skipped; or the section itself is skipped.
@@ -68,12 +69,17 @@ pub data Turn : Type 0 where
 abbrev pub turn_of_bad : Bool → Turn
 turn_of_bad nests = if nests then Opens else Stays
 
+-- a line that GNU C alone has goes on or stays
+abbrev pub turn_of_line : Bool → Turn
+turn_of_line elif = if elif then GoesOn else Stays
+
 abbrev pub turn_of : ItemKind → Turn
 turn_of If = Opens
 turn_of Ifdef = Opens
 turn_of Ifndef = Opens
 turn_of (Bad cause at nests) = turn_of_bad nests
 turn_of Elif = GoesOn
+turn_of (Gnu line) = turn_of_line (is_elif line)
 turn_of Else = GoesLast
 turn_of Endif = Ends
 turn_of _ = Stays

@@ -1,5 +1,5 @@
 -- A translation unit, preprocessed (ISO/IEC 9899:1999, 5.1.1.2 phase 4).
-use Rattle.std.specs.Prelude.{ℕ, ◌-◌, List, [], ◌++◌}
+use Rattle.std.specs.Prelude.{ℕ, ◌-◌, None, List, [], ◌++◌}
 use Rattle.cs_base.specs.Token.{Token}
 use Rattle.cs_base.specs.Units.{UnitValue, defines_of}
 use Rattle.unit_steps.specs.Below.macro_body.Defining.{first_macros}
@@ -19,6 +19,8 @@ first_state limits number unit table = record {
   work = limits.work;
   names = [];
   before = 0;
+  behind = None;
+  once = [];
 }
 
 -- the items of the file of a path, which is the first of those that are open

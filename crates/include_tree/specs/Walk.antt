@@ -1,11 +1,15 @@
 -- The items of a source file, in order (ISO/IEC 9899:1999, 6.10).
-use Rattle.std.specs.Prelude.{ℕ, zero, suc, ◌+◌, Bool, true, false, if◌then◌else◌, Some, None, List, [], ◌∷◌, ◌++◌, Err, map, drop, slice_range}
+use Rattle.std.specs.Prelude.{ℕ, zero, suc, ◌+◌, Bool, true, false, not, if◌then◌else◌, Some, None, List, [], ◌∷◌, ◌++◌, Err, map, slice_range}
 use Rattle.cs_base.specs.declared.causes.Cause.TheVariants.{BadDirective, ErrorDirective, UnbalancedIf}
 use Rattle.cs_base.specs.declared.positions.Pos.{Pos}
 use Rattle.cs_base.specs.Token.{Token}
+use Rattle.cs_base.specs.declared.ws_units.Standard.{Standard}
+use Rattle.cs_base.specs.Units.{is_gnu}
 use Rattle.source_files.specs.Below.line_shape.declared.items.Item.{Item}
 use Rattle.source_files.specs.Below.line_shape.declared.items.ItemKind.{ItemKind}
 use Rattle.source_files.specs.Below.line_shape.declared.items.ItemKind.TheVariants as kind
+use Rattle.source_files.specs.Below.line_shape.declared.items.GnuLine.{GnuLine}
+use Rattle.source_files.specs.Below.line_shape.declared.items.GnuLine.TheVariants.{IncludeNext}
 use Rattle.source_files.specs.Below.line_shape.Items.{items_of}
 use Rattle.source_files.specs.Files.{SourceFile}
 use Rattle.source_files.specs.Faults.{fault_at}
@@ -13,9 +17,8 @@ use Rattle.unit_steps.specs.Notes.{Reaches}
 use Rattle.unit_steps.specs.State.{Context, State, Outcome, only, noted, onward}
 use Rattle.include_tree.specs.Sections.{Group, Awaited, Skipped, Section, section, is_alive, are_processed, group_if, group_after, group_of_else, Turn, Opens, GoesOn, GoesLast, Ends, Stays, turn_of}
 use Rattle.unit_steps.specs.Expanding.{run_of}
-use Rattle.unit_steps.specs.Conditions.{holds}
-use Rattle.unit_steps.specs.Directives.{define_of, undef_of, opens_with, is_if}
-use Rattle.include_tree.specs.Including.{Process, Inner, include_of}
+use Rattle.unit_steps.specs.Directives.{define_of, undef_of, opens_with, goes_with, is_if, pragma_of}
+use Rattle.include_tree.specs.Including.{Process, Inner, include_of, include_next_of}
 
 -- An item with its tokens.
 pub record ItemText : Type 0 where
@@ -37,14 +40,21 @@ items_in file = item_texts file.text.toks file.text.firsts
 
 -- ---- an item that opens no section and ends none
 
+-- what a line that GNU C alone has gives in a processed group of a unit of GNU C: a message is passed over
+abbrev pub processed_line : Context → Inner → GnuLine → SourceFile → Pos → List Token → State → Outcome (List Token)
+processed_line ctx inner IncludeNext file at toks s = include_next_of ctx inner file at toks s
+processed_line ctx inner _ file at toks s = only [] s
+
 -- what it gives in a processed group; a bad line is a fault there
 abbrev pub processed : Context → Inner → SourceFile → ItemKind → Pos → List Token → State → Outcome (List Token)
 processed ctx inner file kind.Run at toks s = run_of ctx file toks s
-processed ctx inner file kind.Define at toks s = define_of file at toks s
+processed ctx inner file kind.Define at toks s = define_of (is_gnu ctx.unit.standard) file at toks s
 processed ctx inner file kind.Undef at toks s = undef_of file at toks s
 processed ctx inner file kind.Include at toks s = include_of ctx inner file at toks s
 processed ctx inner file kind.Error at toks s = Err (fault_at file at ErrorDirective)
 processed ctx inner file (kind.Bad cause place nests) at toks s = Err (fault_at file at BadDirective)
+processed ctx inner file kind.Pragma at toks s = pragma_of (is_gnu ctx.unit.standard) file at toks s
+processed ctx inner file (kind.Gnu line) at toks s = processed_line ctx inner line file at toks s
 processed ctx inner file _ at toks s = only [] s
 
 -- ---- sections
@@ -73,10 +83,10 @@ opens file k i sections s =
     (λ b t. only (stepped [] (section i.at (group_if b) false ∷ sections)) t))
     else only (stepped [] (section i.at Skipped false ∷ sections)) s
 
--- `elif`: its condition is asked where no group was processed yet
+-- `elif`, and in GNU C `elifdef` and `elifndef`: the condition is asked where no group was processed yet
 abbrev pub goes_on : SourceFile → ℕ → ItemText → Section → List Section → State → Group → Outcome Stepped
 goes_on file k i open_ sections s Awaited =
-    reaching file k true s (onward (holds file i.at (drop 2 i.toks) s) (λ b t. only (go_on open_ (group_if b) false sections) t))
+    reaching file k true s (onward (goes_with i.kind file i.at i.toks s) (λ b t. only (go_on open_ (group_if b) false sections) t))
 goes_on file k i open_ sections s Skipped = only (go_on open_ Skipped false sections) s
 goes_on file k i open_ sections s group = reaching file k false s (only (go_on open_ (group_after group) false sections) s)
 
@@ -107,9 +117,22 @@ turned ctx inner file k i sections s Stays =
     reaching file k false s (onward (processed ctx inner file i.kind i.at i.toks s) (λ toks t. only (stepped toks sections) t))
     else only (stepped [] sections) s
 
+-- a line that GNU C alone has, in a unit of another standard: none of the directives (6.10), so a fault where it is
+-- processed
+abbrev pub foreign_line : SourceFile → ItemText → List Section → State → Outcome Stepped
+foreign_line file i sections s =
+    if are_processed sections then Err (fault_at file i.at BadDirective) else only (stepped [] sections) s
+
+-- a line that no unit of this standard has
+abbrev pub is_foreign : Standard → ItemKind → Bool
+is_foreign standard (kind.Gnu line) = not (is_gnu standard)
+is_foreign standard _ = false
+
 -- item number k of a file, these sections being open
 abbrev pub item_step : Context → Inner → SourceFile → ℕ → ItemText → List Section → State → Outcome Stepped
-item_step ctx inner file k i sections s = turned ctx inner file k i sections s (turn_of i.kind)
+item_step ctx inner file k i sections s =
+    if is_foreign ctx.unit.standard i.kind then foreign_line file i sections s
+    else turned ctx inner file k i sections s (turn_of i.kind)
 
 -- ---- all items
 

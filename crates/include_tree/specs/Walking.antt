@@ -45,12 +45,12 @@ inner_in ctx (suc room) = Some (file_items ctx room)
 -- which yields to want of memory.
 abbrev pub GivesLine : Context → Inner → SourceFile → Result (Option IncludeLine) PreFault → State → UnitTextValue → Result (State × UnitTextValue) Fault → Type 0
 GivesLine ctx inner file (Ok None) s k expected = expected ≡ Ok (s, k)
-GivesLine ctx inner file (Ok (Some line)) s k expected = expected ≡ put_after k (included ctx inner file line.at line.header s)
+GivesLine ctx inner file (Ok (Some line)) s k expected = expected ≡ put_after k (included ctx inner file line.at line.next line.header s)
 GivesLine ctx inner file (Err e) s k expected = IfSome (fault_of e) (λ f. expected ≡ Err f)
 
 -- the same of an item behind which these sections are open
 abbrev pub GivesItem : Context → Inner → SourceFile → Result (Option IncludeLine) PreFault → List Section → State → UnitTextValue → Result (List Section × State × UnitTextValue) Fault → Type 0
 GivesItem ctx inner file (Ok None) sections s k expected = expected ≡ Ok (sections, s, k)
 GivesItem ctx inner file (Ok (Some line)) sections s k expected =
-    expected ≡ with_sections sections (put_after k (included ctx inner file line.at line.header s))
+    expected ≡ with_sections sections (put_after k (included ctx inner file line.at line.next line.header s))
 GivesItem ctx inner file (Err e) sections s k expected = IfSome (fault_of e) (λ f. expected ≡ Err f)

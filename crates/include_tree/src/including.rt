@@ -5,7 +5,7 @@ ghost use Rattle.cs_base.specs.Outside.{ReadsOnly};
 ghost use Rattle.source_files.specs.Files.{Source};
 ghost use Rattle.source_files.specs.Faults.{place_in};
 ghost use Rattle.unit_steps.specs.State.{State};
-ghost use Rattle.source_files.specs.Search.{can_be_asked, candidates_of, search};
+ghost use Rattle.source_files.specs.Search.{can_be_asked, behind_of, candidates_of, search};
 ghost use Rattle.include_tree.specs.Including.{open_header};
 ghost use Rattle.source_files.specs.Answers.{reads_of, ReadsOn};
 ghost use Rattle.source_files.specs.Tables.{AreFound};
@@ -15,8 +15,8 @@ ghost use Rattle.include_tree.specs.GivenFiles.{unit_context, GivesFile};
 use crate::item_toks::source_of;
 use cs_base::{Cause, Files, Memory, Place, Pos, Text, Tok, Unit};
 use source_files::{
-    Cache, Header, KeptFile, PreFault, candidates_of, fault_there, header_in, header_of_toks,
-    is_header, open_file, search,
+    Cache, Header, KeptFile, PreFault, behind_of, candidates_of, fault_there, header_in,
+    header_of_toks, is_header, open_file, search,
 };
 use std::alloc::Global;
 use unit_steps::{Progress, SourceText};
@@ -34,16 +34,18 @@ fn asked_by(
     file: &KeptFile,
     unit: &Unit,
     at: Pos,
+    next: bool,
     header: &Header,
+    behind: Option<u32>,
 ) -> Result<Asked, Memory>
     ensures can { IfOk result (λ a. list_all can_be_asked a.paths.items ≡ true) }
-    ensures paths { IfOk result (λ a. IfSome (source_kept file.now) (λ source. a.paths.items ≡ candidates_of header.now source.path unit.now)) }
+    ensures paths { IfOk result (λ a. IfSome (source_kept file.now) (λ source. a.paths.items ≡ candidates_of next header.now behind source.path unit.now)) }
     ensures place { IfOk result (λ a. IfSome (source_kept file.now) (λ source. a.place ≡ place_in source at)) }
 {
     let source = source_of(file);
     let (line, column) = source.line_column(at);
     Ok(Asked {
-        paths: candidates_of(alloc, header, source.path, unit)?,
+        paths: candidates_of(alloc, next, header, behind, source.path, unit)?,
         place: Place {
             path: Text::new(alloc, source.path)?,
             line,
@@ -59,15 +61,17 @@ fn asked_in(
     unit: &Unit,
     number: u32,
     at: Pos,
+    next: bool,
     header: &Header,
+    behind: Option<u32>,
 ) -> Result<Asked, Memory>
     requires kept { IsSome (source_at cache.now.table number) }
     ensures can { IfOk result (λ a. list_all can_be_asked a.paths.items ≡ true) }
-    ensures paths { IfOk result (λ a. IfSome (source_at cache.now.table number) (λ source. a.paths.items ≡ candidates_of header.now source.path unit.now)) }
+    ensures paths { IfOk result (λ a. IfSome (source_at cache.now.table number) (λ source. a.paths.items ≡ candidates_of next header.now behind source.path unit.now)) }
     ensures place { IfOk result (λ a. IfSome (source_at cache.now.table number) (λ source. a.place ≡ place_in source at)) }
 {
     match cache.file(number) {
-        Some(file) => asked_by(alloc, file, unit, at, header),
+        Some(file) => asked_by(alloc, file, unit, at, next, header, behind),
         None => unreachable!(),
     }
 }
@@ -102,17 +106,49 @@ pub(crate) fn open_header<F: Files>(
     unit: &Unit,
     number: u32,
     at: Pos,
+    next: bool,
     header: &Header,
+    behind: Option<u32>,
 ) -> Result<u32, PreFault>
     requires kept { IsSome (source_at cache.old.table number) }
-    ensures answer { (source : Source) → AreFound source cache.new.table → IfSome (source_at cache.old.table number) (λ file. (s : State) → s.table ≡ cache.old.table →
-        GivesFile result (open_header (unit_context source unit.now cache.old.toks) file at header.now s) cache.new.table s) }
+    ensures answer { (source : Source) → AreFound source cache.new.table → IfSome (source_at cache.old.table number) (λ file. (s : State) → s.table ≡ cache.old.table → s.behind ≡ behind →
+        GivesFile result (open_header (unit_context source unit.now cache.old.toks) file at next header.now s) cache.new.table s) }
     ensures there { IfOk result (λ n. IsSome (source_at cache.new.table n)) }
     ensures reads { ReadsOn (F.told files.old).held cache.old cache.new }
     ensures faults { ReadsOnly (F.told files.old) (F.told files.new) (reads_of result) }
 {
-    match asked_in(alloc, cache, unit, number, at, header) {
+    match asked_in(alloc, cache, unit, number, at, next, header, behind) {
         Ok(asked) => open_asked(alloc, cache, files, &asked),
         Err(_) => Err(PreFault::Memory),
+    }
+}
+
+/// Where a search for the next file of the name begins in the kept file `found`, which a line of file `number` asked for.
+pub(crate) fn behind_found(
+    alloc: Global,
+    cache: &Cache,
+    unit: &Unit,
+    number: u32,
+    next: bool,
+    header: &Header,
+    behind: Option<u32>,
+    found: u32,
+) -> Result<Option<u32>, Memory>
+    requires kept { IsSome (source_at cache.now.table number) }
+    requires there { IsSome (source_at cache.now.table found) }
+    ensures { IfOk result (λ k. IfSome (source_at cache.now.table number) (λ file. IfSome (source_at cache.now.table found) (λ inner.
+        k ≡ behind_of next header.now behind file.path unit.now inner.path))) }
+{
+    match (cache.file(number), cache.file(found)) {
+        (Some(file), Some(inner)) => behind_of(
+            alloc,
+            next,
+            header,
+            behind,
+            source_of(file).path,
+            unit,
+            source_of(inner).path,
+        ),
+        _ => unreachable!(),
     }
 }

@@ -28,6 +28,6 @@ mod walking;
 pub use laws::{
     depth_is_a_limit, pseudo_files_are_of_their_units, tables_only_grow, units_are_counted,
 };
-pub use source_files::{Cache, Item, ItemKind, KeptFile, PreFault};
+pub use source_files::{Cache, GnuLine, Item, ItemKind, KeptFile, PreFault, begins_header};
 pub use unit_steps::{Event, EventKind, Reached, UnitText};
 pub use unit_walk::preprocess;

@@ -5,7 +5,8 @@ ghost use Rattle.cs_base.specs.Answer.{Gives};
 ghost use Rattle.unit_steps.specs.Below.macro_body.Sound.{is_traced, is_low};
 ghost use Rattle.source_files.specs.Files.{Table};
 ghost use Rattle.unit_steps.specs.State.{only};
-ghost use Rattle.include_tree.specs.Sections.{Section, section, Awaited, turn_of, turn_of_bad};
+ghost use Rattle.source_files.specs.Below.line_shape.Directives.{is_elif};
+ghost use Rattle.include_tree.specs.Sections.{Section, section, Awaited, turn_of, turn_of_bad, turn_of_line};
 ghost use Rattle.unit_steps.specs.Directives.{is_if};
 ghost use Rattle.include_tree.specs.Walk.{stepped, opens, goes_on, reaching_alive};
 ghost use Rattle.source_files.specs.Answers.{fault_of, IsNoReadFault};
@@ -18,8 +19,8 @@ ghost use Rattle.include_tree.specs.Walking.{stepped_after, elif_of, else_of, en
 use crate::item_toks::ItemToks;
 use crate::sections::{Group, OpenSection, Sections, group_if, group_of_else, is_alive};
 use cs_base::{Cause, Memory, Tok};
-use source_files::{ItemKind, PreFault};
-use unit_steps::{Progress, SourceText, behind_word};
+use source_files::{GnuLine, ItemKind, PreFault};
+use unit_steps::{Progress, SourceText};
 
 /// What a line does to the sections: it opens one, goes on to the next group or to the last one, or ends it;
 /// any other item leaves them.
@@ -43,6 +44,7 @@ pub(crate) fn section_line(kind: ItemKind) -> SectionLine
         ItemKind::Else => SectionLine::Last,
         ItemKind::Endif => SectionLine::Ending,
         ItemKind::Bad { nests, .. } => bad_line(nests),
+        ItemKind::Gnu(line) => gnu_line(line),
         _ => SectionLine::Other,
     }
 }
@@ -55,6 +57,16 @@ fn bad_line(nests: bool) -> SectionLine
         SectionLine::Opening
     } else {
         SectionLine::Other
+    }
+}
+
+// A line that GNU C alone has goes on with a section or leaves them.
+fn gnu_line(line: GnuLine) -> SectionLine
+    ensures { turn_in result ≡ turn_of_line (is_elif line) }
+{
+    match line {
+        GnuLine::Elifdef | GnuLine::Elifndef => SectionLine::Next,
+        _ => SectionLine::Other,
     }
 }
 
@@ -110,7 +122,7 @@ fn asked_group(
     ensures answer { (table : Table) (open_ : Section) (around : List Section) → Gives (λ g. (section open_.opening (group_of g) false ∷ around, state_in table p.new, p.new.text)) fault_of result (stepped_after p.old.text (goes_on (source_in file.now) k (item_in item.now) open_ around (state_in table p.old) Awaited)) }
 {
     p.reach(file.number, k, true)?;
-    match p.holds(file, item.at, behind_word(item.toks)) {
+    match p.goes_with(file, item.kind, item.at, item.toks) {
         Ok(holds) => Ok(group_if(holds)),
         Err(fault) => Err(fault),
     }

@@ -6,7 +6,7 @@ ghost use Rattle.source_files.specs.Files.{Source};
 ghost use Rattle.source_files.specs.Faults.{fault_at};
 ghost use Rattle.unit_steps.specs.State.{Context, State};
 ghost use Rattle.unit_steps.specs.Expanding.{most_toks};
-ghost use Rattle.include_tree.specs.Including.{Inner, entered, included};
+ghost use Rattle.include_tree.specs.Including.{Inner, entered, included, unless_once};
 ghost use Rattle.include_tree.specs.Walk.{items_in, item_step, file_end, file_items};
 ghost use Rattle.unit_steps.specs.Texts.{UnitTextValue};
 ghost use Rattle.source_files.specs.Answers.{fault_of, IsNoReadFault, reads_of, ReadsOn};
@@ -17,11 +17,11 @@ ghost use Rattle.source_files.specs.Sources.{source_kept, source_at, unit_most};
 ghost use Rattle.include_tree.specs.GivenFiles.{unit_context};
 ghost use Rattle.include_tree.specs.Walking.{stepped_after, inner_in, GivesItem};
 
-use crate::including::open_header;
+use crate::including::{behind_found, open_header};
 use crate::item_steps::{IncludeLine, item_step};
 use crate::item_toks::{item_at, source_of};
 use crate::sections::Sections;
-use cs_base::{Cause, Files, Memory, Pos, Unit};
+use cs_base::{Cause, Files, Memory, Pos, Standard, Unit};
 use source_files::{Cache, Header, KeptFile, PreFault};
 use std::alloc::Global;
 use unit_steps::Progress;
@@ -74,6 +74,7 @@ fn file_end(alloc: Global, cache: &Cache, number: u32, sections: &Sections) -> R
 fn next_item(
     cache: &Cache,
     p: &mut Progress,
+    standard: Standard,
     number: u32,
     k: u32,
     sections: &mut Sections,
@@ -82,11 +83,11 @@ fn next_item(
     requires able { IsAble p.old }
     ensures goes_on { GoesOn p.old p.new result }
     ensures no_read { IfErr result IsNoReadFault }
-    ensures answer { (ctx : Context) (inner : Inner) → most_toks ctx ≡ p.old.most → IfSome (source_at cache.now.table number) (λ file. IfSome (slice_get (items_in file) k) (λ i. GivesItem ctx inner file result sections.new (state_in cache.now.table p.new) p.new.text (stepped_after p.old.text (item_step ctx inner file k i sections.old (state_in cache.now.table p.old))))) }
+    ensures answer { (ctx : Context) (inner : Inner) → most_toks ctx ≡ p.old.most → ctx.unit.standard ≡ standard → IfSome (source_at cache.now.table number) (λ file. IfSome (slice_get (items_in file) k) (λ i. GivesItem ctx inner file result sections.new (state_in cache.now.table p.new) p.new.text (stepped_after p.old.text (item_step ctx inner file k i sections.old (state_in cache.now.table p.old))))) }
 {
     let file = kept_file(cache, number);
     match item_at(file, k) {
-        Some(item) => item_step(p, &source_of(file), k, &item, sections),
+        Some(item) => item_step(p, standard, &source_of(file), k, &item, sections),
         None => Ok(None),
     }
 }
@@ -144,7 +145,7 @@ fn walk_item<F: Files>(
     ensures reads { ReadsOn (F.told files.old).held cache.old cache.new }
     ensures faults { ReadsOnly (F.told files.old) (F.told files.new) (reads_of result) }
 {
-    match next_item(cache, p, number, k, sections) {
+    match next_item(cache, p, unit.standard(), number, k, sections) {
         Ok(Some(line)) => include_file(
             alloc,
             cache,
@@ -154,6 +155,7 @@ fn walk_item<F: Files>(
             number,
             room,
             line.at,
+            line.next,
             &line.header,
         ),
         Ok(None) => Ok(()),
@@ -172,13 +174,14 @@ fn include_file<F: Files>(
     number: u32,
     room: u32,
     at: Pos,
+    next: bool,
     header: &Header,
 ) -> Result<(), PreFault>
     requires kept { IsSome (source_at cache.old.table number) }
     requires ready { IsReady p.old (unit_most cache.old.toks) }
     ensures answer { (source : Source) → AreFound source cache.new.table → IfSome (source_at cache.old.table number) (λ file.
         Gives (λ _. (state_in cache.new.table p.new, p.new.text)) fault_of result
-        (put_after p.old.text (included (unit_context source unit.now cache.old.toks) (inner_in (unit_context source unit.now cache.old.toks) room) file at header.now (state_in cache.old.table p.old)))) }
+        (put_after p.old.text (included (unit_context source unit.now cache.old.toks) (inner_in (unit_context source unit.now cache.old.toks) room) file at next header.now (state_in cache.old.table p.old)))) }
     ensures goes_on { GoesOn p.old p.new result }
     ensures reads { ReadsOn (F.told files.old).held cache.old cache.new }
     ensures faults { ReadsOnly (F.told files.old) (F.told files.new) (reads_of result) }
@@ -186,15 +189,20 @@ fn include_file<F: Files>(
     if room == 0 {
         return Err(fault_in(alloc, cache, number, at, Cause::IncludeDepth));
     }
-    match open_header(alloc, cache, files, unit, number, at, header) {
-        Ok(inner) => enter_file(alloc, cache, files, p, unit, inner, room - 1, at),
+    match open_header(
+        alloc, cache, files, unit, number, at, next, header, p.behind,
+    ) {
+        Ok(inner) => {
+            let behind = behind_found(alloc, cache, unit, number, next, header, p.behind, inner)?;
+            enter_file(alloc, cache, files, p, unit, inner, room - 1, at, behind)
+        }
         Err(fault) => Err(fault),
     }
 }
 
 #[cycle(walk)]
-// The items of the kept file with this number, entered and left by an include line whose `#` is there.
-fn enter_file<F: Files>(
+// The items of the kept file with this number, which an include line whose `#` is there passes over where the file is read once.
+fn read_file<F: Files>(
     alloc: Global,
     cache: &mut Cache,
     files: &mut F,
@@ -208,16 +216,48 @@ fn enter_file<F: Files>(
     requires ready { IsReady p.old (unit_most cache.old.toks) }
     ensures answer { (source : Source) → AreFound source cache.new.table → IfSome (source_at cache.old.table number) (λ file.
         Gives (λ _. (state_in cache.new.table p.new, p.new.text)) fault_of result
-        (put_after p.old.text (entered (file_items (unit_context source unit.now cache.old.toks) room) at file (state_in cache.old.table p.old)))) }
+        (put_after p.old.text (unless_once at (file_items (unit_context source unit.now cache.old.toks) room) file (state_in cache.old.table p.old)))) }
+    ensures goes_on { GoesOn p.old p.new result }
+    ensures reads { ReadsOn (F.told files.old).held cache.old cache.new }
+    ensures faults { ReadsOnly (F.told files.old) (F.told files.new) (reads_of result) }
+{
+    if p.is_read_once(number) {
+        p.pass(at, number)?;
+        return Ok(());
+    }
+    walk_file(alloc, cache, files, p, unit, number, room)
+}
+
+#[cycle(walk)]
+// The items of the kept file with this number, entered and left by an include line whose `#` is there.
+fn enter_file<F: Files>(
+    alloc: Global,
+    cache: &mut Cache,
+    files: &mut F,
+    p: &mut Progress,
+    unit: &Unit,
+    number: u32,
+    room: u32,
+    at: Pos,
+    behind: Option<u32>,
+) -> Result<(), PreFault>
+    requires kept { IsSome (source_at cache.old.table number) }
+    requires ready { IsReady p.old (unit_most cache.old.toks) }
+    ensures answer { (source : Source) → AreFound source cache.new.table → IfSome (source_at cache.old.table number) (λ file.
+        Gives (λ _. (state_in cache.new.table p.new, p.new.text)) fault_of result
+        (put_after p.old.text (entered (unless_once at (file_items (unit_context source unit.now cache.old.toks) room)) at behind file (state_in cache.old.table p.old)))) }
     ensures goes_on { GoesOn p.old p.new result }
     ensures reads { ReadsOn (F.told files.old).held cache.old cache.new }
     ensures faults { ReadsOnly (F.told files.old) (F.told files.new) (reads_of result) }
 {
     p.enter(at, number)?;
-    match walk_file(alloc, cache, files, p, unit, number, room) {
+    let outer = p.behind;
+    p.behind = behind;
+    match read_file(alloc, cache, files, p, unit, number, room, at) {
         Ok(()) => {}
         Err(fault) => return Err(fault),
     }
+    p.behind = outer;
     p.leave(at, number)?;
     Ok(())
 }

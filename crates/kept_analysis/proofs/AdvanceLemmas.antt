@@ -21,10 +21,11 @@ use Rattle.offences.specs.First.{IsFirst}
 use Rattle.rename_rules.specs.Offences.{offences_of}
 use Rattle.rename_meaning.proofs.FollowLinkLemmas.{classes_follow}
 use Rattle.rename_meaning.proofs.ReadLemmas.{unit_has_tree}
-use Rattle.kept_analysis.specs.declared.moves.Moves.{Moves}
-use Rattle.kept_analysis.specs.Following.{IsFollowed, IsReadAsBefore, IsRenamedIn, renamed_by}
+use Rattle.rename_meaning.proofs.TextLemmas.{respelled_files_have_renamed_analysis}
+use Rattle.offences.specs.declared.moves.Moves.{Moves}
+use Rattle.kept_analysis.specs.Following.{IsAnalysedAnew, IsFollowed, IsReadAsBefore, IsRenamedIn, renamed_by}
 use Rattle.kept_analysis.specs.Edits.{edited_front}
-use Rattle.kept_analysis.specs.Moves.{AreMoves, editing_by, renaming_by}
+use Rattle.offences.specs.Moves.{AreMoves, editing_by, renaming_by}
 use Rattle.kept_analysis.proofs.FollowLemmas.{analysis_same, renaming_same}
 use Rattle.offences.proofs.MemberListLemmas.{one_list}
 
@@ -99,6 +100,22 @@ module _ (a : Analysed) (own : AreItsClasses a.value a.classes) (part : Part) (c
         is
         ∙ (analysis_same a ms name allowed m are
         ∙ ap (λ (xs : List Part). renamed_analysis (renaming_of a.value xs name) (respelled xs name) a.value) (one_list a.value part ms members of also))
+
+  pub analysed_anew : (name : List ℕ) → IsFollowed a.value part name → (b : AnalysisValue) → IsRenamedIn a.value part name b
+      → IsAnalysedAnew a.value part name b
+  analysed_anew name f b is source now members ws once analysed these respelled =
+      respelled_files_have_renamed_analysis source now a.value.workspace a.value a.classes part members name f.path f.line f.column
+      (record {
+        workspace = ws;
+        analysed = analysed;
+        own = own;
+        once = once;
+        class = these;
+        identifier = f.identifier;
+        clear = subst (λ (xs : List Part). IsFirst a.value.table (offences_of a.value xs name true) None) (one_list a.value part f.members members f.class these) f.clear;
+      })
+      f.named respelled
+      ∙ ap (λ (v : AnalysisValue). Ok v) (sym (is members these))
 
   pub moved_for : (len : ℕ) (t : Table) (d : ℕ) → class_in a.classes part ≡ Some d → Resizes c len a.classes t → Resizes d len a.classes t
   moved_for len t d also resizes = subst (λ (n : ℕ). Resizes n len a.classes t) (same_Some c d (sym at ∙ also)) resizes

@@ -10,9 +10,9 @@ use Rattle.analysis.specs.Below.lexer.Respelling.{Put, edited}
 use Rattle.part_respell.specs.Walk.{edited_at}
 use Rattle.part_respell.proofs.WalkLemmas.{edited-at}
 use Rattle.analysis.specs.Below.lexer.Places.{pos}
-use Rattle.kept_analysis.specs.declared.moves.Moves.{Moves}
+use Rattle.offences.specs.declared.moves.Moves.{Moves}
 use Rattle.kept_analysis.specs.Edits.{stands_at, IsMade}
-use Rattle.kept_analysis.specs.Moves.{editing_by, put_by}
+use Rattle.offences.specs.Moves.{editing_by, put_by}
 
 drop_at : {X : Type 0} (xs : List X) (k : ℕ) (x : X) → slice_get xs k ≡ Some x → drop k xs ≡ x ∷ drop (k + 1) xs
 drop_at {X = X} xs k x at =

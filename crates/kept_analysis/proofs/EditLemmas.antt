@@ -1,28 +1,15 @@
 -- A table of files whose kept files are edited one by one.
-use Rattle.std.proofs.Common.{◌≡◌, ℕ, zero, suc, ◌+◌, ◌≤◌, List, [], ◌∷◌, length, Option, Some, None, Result, Ok, Err, inl, inr, refl, sym, ap, ◌∙◌, arith}
-use Rattle.std.specs.Prelude.{OnOk, slice_get, nat_lt}
+use Rattle.std.proofs.Common.{◌≡◌, ℕ, zero, suc, ◌+◌, ◌≤◌, List, [], ◌∷◌, length, Option, Some, None, Result, Ok, Err, refl, sym, ap, ◌∙◌, arith}
+use Rattle.std.specs.Prelude.{OnOk, slice_get}
 use Rattle.std.specs.Option.{option_and_then}
-use Rattle.std.proofs.lemmas.Bool.{cases_Bool}
 use Rattle.std.proofs.lemmas.Option.{none-some, same_Some}
-use Rattle.analysis.specs.Below.lexer.FileText.{TextValue, LexFault, file_text}
-use Rattle.include_tree.specs.Below.source_files.Edited.{TooManyBytes, edited, edited_as, edited_of, with_bytes}
-use Rattle.include_tree.specs.Below.source_files.Files.{Table, Found, Lines, Absent, Unopened, Opened, Made, entry, bytes_opened}
+use Rattle.include_tree.specs.Below.source_files.Edited.{edited, with_bytes}
+use Rattle.include_tree.specs.Below.source_files.Files.{Table, Found, Lines, Absent, Unopened, Opened, Made, entry}
 use Rattle.include_tree.specs.Below.source_files.KeptFiles.{KeptValue, kept, kept_in, kept_at}
-use Rattle.include_tree.specs.Below.source_files.Limits.{the_limits}
 use Rattle.analysis.specs.Changed.{Editing}
 use Rattle.kept_analysis.specs.Edits.{kept_edited, edited_one, edited_front, IsNew}
 
 -- ---- what an edit that is made gives
-
-as_is : (table new : Table) (r : Result TextValue LexFault) → edited_as table r ≡ Ok new → new ≡ table
-as_is table new (Ok text) e = cc
-as_is table new (Err fault) e = absurd (cc)
-
-pub edited_is : (number : ℕ) (bytes : List ℕ) (table new : Table) → edited_of number bytes table ≡ Ok new → new ≡ edited number bytes table
-edited_is number bytes table new e = elim (cases_Bool (nat_lt the_limits.all_bytes (bytes_opened (edited number bytes table)))) [
-  | inl more ↦ let no : Err TooManyBytes ≡ Ok new = rw more at e in absurd (cc)
-  | inr fits ↦ let made : edited_as (edited number bytes table) (file_text number bytes) ≡ Ok new = rw fits at e in as_is (edited number bytes table) new (file_text number bytes) made
-]
 
 -- ---- one entry
 

@@ -1,8 +1,4 @@
 -- What the proofs of this crate rest on.
-mod PutLemmas
-mod PlaceLemmas
-mod TokLemmas
-mod StillLemmas
 mod ByteLemmas
 mod EditLemmas
 mod FollowLemmas

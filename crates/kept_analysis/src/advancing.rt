@@ -4,15 +4,15 @@ ghost use Rattle.eclass_map.specs.ClassTable.{HasParts, Table, class_in, members
 ghost use Rattle.eclass_map.specs.Resized.{Resizes};
 ghost use Rattle.analysis.specs.Analysis.{UnitAnalysis};
 ghost use Rattle.analysis.specs.Classes.{AreItsClasses};
-ghost use Rattle.kept_analysis.specs.Following.{IsFollowed, IsReadAsBefore, IsRenamedIn, renamed_by};
-ghost use Rattle.kept_analysis.specs.Moves.{renaming_by};
+ghost use Rattle.kept_analysis.specs.Following.{IsAnalysedAnew, IsFollowed, IsReadAsBefore, IsRenamedIn, renamed_by};
+ghost use Rattle.offences.specs.Moves.{renaming_by};
 
-use crate::moves::{Moves, class_moves};
 use crate::renamed_files::edited_files;
 use crate::renamed_texts::renamed_units;
 use analysis::{Analysis, AnalysisParts};
 use cs_base::{Memory, Part};
 use eclass_map::Classes;
+use offences::{Moves, class_moves};
 use std::alloc::Global;
 
 /// The analysis of the files behind a renaming of the class of a part: of those that have this analysis, with the new name for
@@ -20,8 +20,9 @@ use std::alloc::Global;
 /// before it. Refused where memory runs out, and where the files or the tables come to their limits.
 pub fn advance(alloc: Global, a: Analysis, part: Part, name: &[u8]) -> Result<Analysis, Memory>
     requires { IsFollowed a.value part name.now }
-    // It is the analysis of the files with the members respelled: `respelled_files_have_renamed_analysis` says so of each source.
     ensures answer { IfOk result (λ b. IsRenamedIn a.value part name.now b.value) }
+    // It is the analysis of the files with the members respelled, over each source that holds them.
+    ensures anew { IfOk result (λ b. IsAnalysedAnew a.value part name.now b.value) }
     ensures own { IfOk result (λ b. AreItsClasses b.value b.classes) }
     // The table of classes is the old one, in which the members have the new length.
     ensures moved { IfOk result (λ b. (c : ℕ) → class_in a.classes part ≡ Some c → Resizes c (length name.now) a.classes b.classes) }

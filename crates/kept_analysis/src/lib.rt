@@ -3,16 +3,12 @@
 //! `advance` takes the analysis of a workspace, a part of it and the new name of its class, against which nothing stands, and
 //! gives the analysis of the files in which the members are spelled so. Nothing is preprocessed, read or bound again: tokens are
 //! respelled by the origins of their characters, positions move, trees and bindings stay, edited files are lexed anew, and the
-//! table of classes goes on with its numbers. That this is the analysis which the edited files have is a law of
-//! `rename_meaning`. Read `specs/Following.antt`, then `advancing.rt`.
+//! table of classes goes on with its numbers. This is the analysis which the edited files have. Read `specs/Following.antt`,
+//! then `advancing.rt`.
 #![tactic(auto)]
 
 mod advancing;
-mod moves;
-mod puts;
 mod renamed_files;
 mod renamed_texts;
-mod renamed_toks;
-mod still_toks;
 
 pub use advancing::advance;

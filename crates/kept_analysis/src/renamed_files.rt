@@ -5,13 +5,12 @@ ghost use Rattle.cs_base.specs.Limits.{most_bytes};
 ghost use Rattle.include_tree.specs.Below.source_files.Edited.{edited};
 ghost use Rattle.include_tree.specs.Below.source_files.KeptFiles.{kept_at};
 ghost use Rattle.kept_analysis.specs.Edits.{IsNew, edited_front, edited_one, stands_at};
-ghost use Rattle.kept_analysis.specs.Moves.{editing_by, put_by};
+ghost use Rattle.offences.specs.Moves.{editing_by, put_by};
 
-use crate::moves::Moves;
-use crate::puts::Put;
 use analysis::KeptFile;
 use cs_base::{Memory, Pos};
 use include_tree::Cache;
+use offences::{Moves, Put};
 use std::alloc::Global;
 
 /// The files, each kept one with its new bytes; one whose bytes stay is not lexed again.

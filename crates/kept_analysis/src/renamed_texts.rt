@@ -5,12 +5,11 @@ ghost use Rattle.include_tree.specs.Below.unit_steps.Texts.{text_of};
 ghost use Rattle.analysis.specs.Analysis.{UnitAnalysis};
 ghost use Rattle.analysis.specs.Changed.{renamed_event, renamed_text, renamed_token, renamed_unit_analysis};
 ghost use Rattle.kept_analysis.specs.Following.{IsReadAsBefore};
-ghost use Rattle.kept_analysis.specs.Moves.{move_by, renaming_by};
+ghost use Rattle.offences.specs.Moves.{move_by, renaming_by};
 
-use crate::moves::Moves;
-use crate::renamed_toks::{renamed_links, renamed_tok, renamed_toks};
 use analysis::{Event, UnitParts, UnitText};
 use cs_base::{Link, Memory, Pos, Tok};
+use offences::{Moves, renamed_links, renamed_tok, renamed_toks};
 use std::alloc::Global;
 
 /// Units, each with its text as it stands then; their trees and bindings stay.

@@ -1,12 +1,12 @@
 // Lines and files worked by hand from 6.10, 6.10.3 and 6.4.6.
 use cs_base::{Cause, Pos};
 use lexer::{LexRefusal, lex};
-use line_shape::{Item, ItemKind, shape};
+use line_shape::{GnuLine, Item, ItemKind, shape};
 use std::alloc::Global;
 use std::test::Fail;
 
 // Lines of an allowed form.
-const LINES: [(&[u8], ItemKind); 65] = [
+const LINES: [(&[u8], ItemKind); 72] = [
     (b"a", ItemKind::Run),
     (b"a # define b", ItemKind::Run),
     (b"## define A", ItemKind::Run),
@@ -32,6 +32,7 @@ const LINES: [(&[u8], ItemKind); 65] = [
     (b"#define F(defined) defined", ItemKind::Define),
     (b"#define F(...) __VA_ARGS__", ItemKind::Define),
     (b"#define F(a,...) a __VA_ARGS__", ItemKind::Define),
+    (b"#define F(a...) a", ItemKind::Define),
     (b"#define F(a) #a", ItemKind::Define),
     (b"#define F(a) # a", ItemKind::Define),
     (b"#define F(a,b) %:b", ItemKind::Define),
@@ -62,6 +63,12 @@ const LINES: [(&[u8], ItemKind); 65] = [
     (b"#error ##", ItemKind::Error),
     (b"#pragma", ItemKind::Pragma),
     (b"#pragma once", ItemKind::Pragma),
+    (b"#include_next A", ItemKind::Gnu(GnuLine::IncludeNext)),
+    (b"#warning", ItemKind::Gnu(GnuLine::Message)),
+    (b"#ident \"x\"", ItemKind::Gnu(GnuLine::Message)),
+    (b"#sccs x", ItemKind::Gnu(GnuLine::Message)),
+    (b"#elifdef A B", ItemKind::Gnu(GnuLine::Elifdef)),
+    (b"#elifndef defined", ItemKind::Gnu(GnuLine::Elifndef)),
     (b"#define F/**/(a,a)", ItemKind::Define),
     (b"#define F\\\n(a) #a", ItemKind::Define),
     (b"#define A /* \n # */ 1", ItemKind::Define),
@@ -75,13 +82,18 @@ const LINES: [(&[u8], ItemKind); 65] = [
 ];
 
 // Bad lines, each with what stands against it; the last ones have two causes, of which the first is named.
-const BAD_LINES: [(&[u8], Cause); 74] = [
+const BAD_LINES: [(&[u8], Cause); 78] = [
     (b"#foo", Cause::UnknownDirective),
     (b"#Define A", Cause::UnknownDirective),
     (b"#defined A", Cause::UnknownDirective),
     (b"#1", Cause::UnknownDirective),
     (b"# #", Cause::UnknownDirective),
     (b"#(", Cause::UnknownDirective),
+    (b"#warnings", Cause::UnknownDirective),
+    (b"#include_nexts A", Cause::UnknownDirective),
+    (b"#elifdef", Cause::NoMacroName),
+    (b"#elifndef 1", Cause::NoMacroName),
+    (b"#include_next // <a.h>", Cause::NoHeader),
     (b"# define", Cause::NoMacroName),
     (b"#define 1", Cause::NoMacroName),
     (b"#define (a)", Cause::NoMacroName),
@@ -103,7 +115,6 @@ const BAD_LINES: [(&[u8], Cause); 74] = [
     (b"#define F(a;b)", Cause::BadParameters),
     (b"#define F(1)", Cause::BadParameters),
     (b"#define F((a))", Cause::BadParameters),
-    (b"#define F(a...)", Cause::BadParameters),
     (b"#define F(...,a)", Cause::BadParameters),
     (b"#define F(...,...)", Cause::BadParameters),
     (b"#define F(... a)", Cause::BadParameters),

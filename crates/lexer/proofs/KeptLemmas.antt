@@ -13,8 +13,8 @@ use Rattle.lexer.specs.declared.pieces.Piece.{Piece}
 use Rattle.lexer.specs.declared.pieces.Piece.TheVariants.{Blank, LineEnd, OpenComment, Token as Spelled}
 use Rattle.lexer.specs.declared.pieces.LineFront.{LineFront}
 use Rattle.lexer.specs.Characters.{line_feed, slash, star, is_nondigit, is_word, is_white, is_quote, begins}
-use Rattle.lexer.specs.Spelling.{is_identifier_text, begins_number, is_punctuator_text, kind_of, kind_in}
-use Rattle.lexer.specs.Tokens.{front_length, kind_or_other, token_piece, piece_of, piece_length, comment_end, comment_or_open, expects_header, line_front_after, is_hash_text}
+use Rattle.lexer.specs.Spelling.{is_identifier_text, begins_number}
+use Rattle.lexer.specs.Tokens.{token_piece, piece_of, piece_length, comment_end, comment_or_open, expects_header, line_front_after}
 use Rattle.lexer.specs.Front.{front_of, plain_front, wide_front, quoted, quoted_kind, quoted_front, punctuator_length, punctuator_front, header_length, or_header}
 use Rattle.lexer.specs.Respelling.{Put, respell, stays, words_stand, names_stand, keeps_include, keeps_word, keeps_piece, keeps_pieces}
 use Rattle.lexer.proofs.PieceLemmas.{piece_of-length}
@@ -289,53 +289,3 @@ pub keeps-fits : (put : Put) (front : LineFront) (at : ℕ) (cs : List ℕ) → 
 keeps-fits put front at cs keeps = keeps-fits-within (length cs) put front at cs (omega arith) keeps
 
 -- Kinds of spellings.
-
-token-kind : (header : Bool) (c : ℕ) (xs ys : List ℕ) (kind : Kind) → token_piece header (c ∷ (xs ++ ys)) ≡ Spelled kind (suc (length xs))
-    → kind_or_other header (c ∷ xs) ≡ kind
-unfolding token_piece
-token-kind header c xs ys kind is =
-    let size : front_length header (c ∷ (xs ++ ys)) ≡ suc (length xs) = cc in
-    let spelled : kind_or_other header (take (front_length header (c ∷ (xs ++ ys))) (c ∷ (xs ++ ys))) ≡ kind = cc in
-    rw (size, take-append_seam xs ys) at spelled
-
-block-none : (x : Option ℕ) (kind : Kind) (n : ℕ) → comment_or_open x ≡ Spelled kind n → ⊥
-block-none None kind n is = cc
-block-none (Some m) kind n is = cc
-
-pub piece-kind : (header : Bool) (c : ℕ) (xs ys : List ℕ) (kind : Kind) → piece_of header c (xs ++ ys) ≡ Spelled kind (suc (length xs))
-    → kind_or_other header (c ∷ xs) ≡ kind
-unfolding piece_of
-piece-kind header c xs ys kind is =
-    elim (cases_Bool (c == line_feed)) [
-      | inl ends ↦ let contra = rw ends at is in absurd cc
-      | inr on ↦ elim (cases_Bool (is_white c)) [
-        | inl white ↦ let contra = rw (on, white) at is in absurd cc
-        | inr dark ↦ elim (cases_Bool (c == slash && begins slash (xs ++ ys))) [
-          | inl line ↦ let contra = rw (on, dark, line) at is in absurd cc
-          | inr no_line ↦ elim (cases_Bool (c == slash && begins star (xs ++ ys))) [
-            | inl block ↦ absurd (block-none (comment_end (drop 1 (xs ++ ys))) kind (suc (length xs)) (rw (on, dark, no_line, block) at is))
-            | inr no_block ↦ token-kind header c xs ys kind (rw (on, dark, no_line, no_block) at is)
-          ]
-        ]
-      ]
-    ]
-
-hash-kind : (header : Bool) → kind_or_other header (codes "#") ≡ Punct
-unfolding kind_in kind_of is_punctuator_text
-hash-kind true = refl
-hash-kind false = refl
-
-digraph-kind : (header : Bool) → kind_or_other header (codes "%:") ≡ Punct
-unfolding kind_in kind_of is_punctuator_text
-digraph-kind true = refl
-digraph-kind false = refl
-
--- `#` is a punctuator
-pub sign-text : (header : Bool) (c : ℕ) (xs ys : List ℕ) (kind : Kind) → piece_of header c (xs ++ ys) ≡ Spelled kind (suc (length xs))
-    → is_hash_text (c ∷ xs) ≡ true → kind ≡ Punct
-sign-text header c xs ys kind is hash =
-    let spelled = piece-kind header c xs ys kind is in
-    elim (or_cases (bytes_eq (c ∷ xs) (codes "#")) (bytes_eq (c ∷ xs) (codes "%:")) hash) [
-      | inl sign ↦ sym (rw (bytes_eq-equal (c ∷ xs) (codes "#") sign) at spelled) ∙ hash-kind header
-      | inr digraph ↦ sym (rw (bytes_eq-equal (c ∷ xs) (codes "%:") digraph) at spelled) ∙ digraph-kind header
-    ]

@@ -54,14 +54,3 @@ cause_on-define operands h =
         | inr fit ↦ rw (name, fit) (first_of-definition (macro_of (drop 1 operands)))
       ]
     ]
-
-pub cause_on-undef : (operands : List Token) (cause : Cause) → cause_on Undef operands ≡ Some cause → cause_on Define operands ≡ Some cause
-unfolding cause_on
-cause_on-undef operands cause h =
-    elim (cases_Bool (begins_with is_name operands)) [
-      | inr other ↦ rw other (rw other at h)
-      | inl name ↦ elim (cases_Bool (begins_with is_unfit_name operands)) [
-        | inl unfit ↦ rw (name, unfit) (rw (name, unfit) at h)
-        | inr fit ↦ absurd (let bad = rw (name, fit) at h in cc)
-      ]
-    ]

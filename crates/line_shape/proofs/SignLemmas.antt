@@ -38,6 +38,14 @@ pub close-no_ellipsis : (t : Token) → is_close t ≡ true → is_ellipsis t �
 unfolding is_close is_ellipsis
 close-no_ellipsis t h = sign-no_sign (codes ")") (codes "...") t h refl
 
+pub ellipsis-no_close : (t : Token) → is_ellipsis t ≡ true → is_close t ≡ false
+unfolding is_ellipsis is_close
+ellipsis-no_close t h = sign-no_sign (codes "...") (codes ")") t h refl
+
+pub ellipsis-no_comma : (t : Token) → is_ellipsis t ≡ true → is_comma t ≡ false
+unfolding is_ellipsis is_comma
+ellipsis-no_comma t h = sign-no_sign (codes "...") (codes ",") t h refl
+
 pub comma-no_close : (t : Token) → is_comma t ≡ true → is_close t ≡ false
 unfolding is_comma is_close
 comma-no_close t h = sign-no_sign (codes ",") (codes ")") t h refl

@@ -42,8 +42,8 @@ abbrev pub Adds : List ℕ → List (List ℕ) → Bool → List (List ℕ) → 
 Adds name old true new = (list_any (bytes_eq name) old ≡ false) × (new ≡ old ++ name ∷ [])
 Adds name old false new = list_any (bytes_eq name) old ≡ true
 
-abbrev pub parameters : List (List ℕ) → Bool → ℕ → Parameters
-parameters names variadic len = record { names = names; variadic = variadic; len = len }
+abbrev pub parameters : List (List ℕ) → Bool → Bool → ℕ → Parameters
+parameters names variadic named len = record { names = names; variadic = variadic; named = named; len = len }
 
 -- a parameter that is none of these names
 abbrev pub is_new_parameter : List (List ℕ) → Token → Bool
@@ -55,25 +55,31 @@ AddsParameter t old true new = (is_new_parameter old t ≡ true) × (new ≡ old
 AddsParameter t old false new = is_new_parameter old t ≡ false
 
 -- the parameters of a list that ends with a `)` or with another token
-abbrev pub ended : List (List ℕ) → Bool → ℕ → Bool → Option Parameters
-ended names variadic len closed = if closed then Some (parameters names variadic len) else None
+abbrev pub ended : List (List ℕ) → Bool → Bool → ℕ → Bool → Option Parameters
+ended names variadic named len closed = if closed then Some (parameters names variadic named len) else None
+
+-- the last of these names stands before the `...` that the tokens are behind
+abbrev pub ended_named : List (List ℕ) → ℕ → List Token → Option Parameters
+ended_named names len [] = None
+ended_named names len (t ∷ toks) = ended names false true len (is_close t)
 
 -- The parameters of a list that goes on, after these names, with the tokens from number `at` on.
 unfoldable pub parameters_from : List (List ℕ) → ℕ → List Token → Option Parameters
 parameters_from names at [] = None
 parameters_from names at (t ∷ []) = None
 parameters_from names at (t ∷ sign ∷ toks) =
-    if is_ellipsis t then ended names true (at + 2) (is_close sign) else
+    if is_ellipsis t then ended names true false (at + 2) (is_close sign) else
     if is_new_parameter names t then
     (if is_comma sign then parameters_from (names ++ t.text ∷ []) (at + 2) toks
-    else ended (names ++ t.text ∷ []) false (at + 2) (is_close sign))
+    else if is_ellipsis sign then ended_named (names ++ t.text ∷ []) (at + 3) toks
+    else ended (names ++ t.text ∷ []) false false (at + 2) (is_close sign))
     else None
 
 -- the parameters of the list that begins behind its `(`
 unfoldable pub parameters_of : List Token → Option Parameters
 parameters_of [] = None
 parameters_of (t ∷ toks) =
-    if is_close t then Some (parameters [] false 1) else parameters_from [] 0 (t ∷ toks)
+    if is_close t then Some (parameters [] false false 1) else parameters_from [] 0 (t ∷ toks)
 
 -- ---- macro definitions
 

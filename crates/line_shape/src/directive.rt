@@ -2,11 +2,12 @@
 ghost use Rattle.std.specs.Prelude.{◌≡◌, if◌then◌else◌, IfOk, drop};
 ghost use Rattle.line_shape.specs.Signs.{is_unfit_name};
 ghost use Rattle.std.specs.Str.{bytes_eq};
-ghost use Rattle.line_shape.specs.Directives.{directive_spelled, directive_named, nests_when_bad};
+ghost use Rattle.std.specs.Option.{option_map};
+ghost use Rattle.line_shape.specs.Directives.{gnu_directives, meaning_in, directive_spelled, directive_named, nests_when_bad};
 ghost use Rattle.line_shape.specs.BadLines.{cause_on};
 ghost use Rattle.line_shape.specs.Items.{kind_unless, named_kind, directive_kind, line_kind};
 
-use crate::items::ItemKind;
+use crate::items::{GnuLine, ItemKind};
 use crate::macro_line::definition_cause;
 use crate::signs::{is_hash, is_name, is_unfit_name};
 use cs_base::{Cause, Memory, Pos, Tok};
@@ -131,6 +132,28 @@ fn directive_spelled(text: &[u8]) -> Option<ItemKind>
     if is_spelled(text, b"pragma") {
         return Some(ItemKind::Pragma);
     }
+    match gnu_spelled(text) {
+        Some(line) => Some(ItemKind::Gnu(line)),
+        None => None,
+    }
+}
+
+// The directive with this word that GNU C alone has.
+fn gnu_spelled(text: &[u8]) -> Option<GnuLine>
+    ensures { option_map ItemKind.Gnu result ≡ meaning_in gnu_directives text.now }
+{
+    if is_spelled(text, b"include_next") {
+        return Some(GnuLine::IncludeNext);
+    }
+    if is_spelled(text, b"warning") || is_spelled(text, b"ident") || is_spelled(text, b"sccs") {
+        return Some(GnuLine::Message);
+    }
+    if is_spelled(text, b"elifdef") {
+        return Some(GnuLine::Elifdef);
+    }
+    if is_spelled(text, b"elifndef") {
+        return Some(GnuLine::Elifndef);
+    }
     None
 }
 
@@ -144,7 +167,20 @@ fn cause_on(alloc: Global, kind: ItemKind, operands: &[Tok]) -> Result<Option<Ca
         ItemKind::Undef => Ok(undef_cause(operands)),
         ItemKind::Ifdef | ItemKind::Ifndef => Ok(condition_cause(operands)),
         ItemKind::Include => Ok(include_cause(operands)),
+        ItemKind::Gnu(line) => Ok(gnu_cause(line, operands)),
         _ => Ok(None),
+    }
+}
+
+#[tactic(auto, unfolding(crate::specs::BadLines::cause_on))]
+// What stands first against a line that GNU C alone has.
+fn gnu_cause(line: GnuLine, operands: &[Tok]) -> Option<Cause>
+    ensures { result ≡ cause_on (ItemKind.Gnu line) operands.now }
+{
+    match line {
+        GnuLine::IncludeNext => include_cause(operands),
+        GnuLine::Message => None,
+        GnuLine::Elifdef | GnuLine::Elifndef => condition_cause(operands),
     }
 }
 

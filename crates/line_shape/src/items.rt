@@ -1,6 +1,17 @@
 // The items of a source file.
 use cs_base::{Cause, Pos};
 
+/// The directives that GNU C has more (of the last two the next edition of the standard has the same).
+#[derive(Clone, Copy, Debug, PartialEq, Eq)]
+pub enum GnuLine {
+    /// `include_next`.
+    IncludeNext,
+    /// `warning`, `ident` or `sccs`, which say something to whoever reads them.
+    Message,
+    Elifdef,
+    Elifndef,
+}
+
 /// What an item is: a run of text lines, or a directive line, by its word.
 #[derive(Clone, Copy, Debug, PartialEq, Eq)]
 pub enum ItemKind {
@@ -18,6 +29,8 @@ pub enum ItemKind {
     Line,
     Error,
     Pragma,
+    /// A directive that GNU C alone has.
+    Gnu(GnuLine),
     /// A `#` alone on its line (6.10.7).
     Empty,
     /// A directive line of no allowed form, whose `#` is at this position. It begins an if-section

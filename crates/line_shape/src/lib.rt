@@ -17,7 +17,7 @@ mod parameters;
 mod signs;
 mod walk;
 
-pub use items::{Item, ItemKind};
+pub use items::{GnuLine, Item, ItemKind};
 pub use signs::{
     is_close, is_comma, is_ellipsis, is_hash, is_name, is_open, is_paste, is_sign, is_word,
 };

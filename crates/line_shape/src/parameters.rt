@@ -1,18 +1,19 @@
 // The parameter list of a function-like macro (6.10.3).
 ghost use Rattle.std.specs.Prelude.{◌≡◌, ◌≤◌, [], IfOk, IfSome, length};
-ghost use Rattle.line_shape.specs.Walk.{AddsParameter, ended, parameters_from, parameters_of};
+ghost use Rattle.line_shape.specs.Walk.{AddsParameter, ended, ended_named, parameters_from, parameters_of};
 
 use crate::names::Names;
 use crate::signs::{is_close, is_comma, is_ellipsis, is_parameter};
 use cs_base::{Memory, Tok};
 use std::alloc::Global;
 
-/// The names of the parameters, whether `...` follows them, and how many tokens the list has with its
-/// `)`, behind its `(`.
+/// The names of the parameters, whether `...` follows them as one more, whether it stands behind the name
+/// of the last one, and how many tokens the list has with its `)`, behind its `(`.
 #[derive(Drop)]
 pub struct Parameters {
     pub names: Names,
     pub variadic: bool,
+    pub named: bool,
     pub len: usize,
 }
 
@@ -27,6 +28,7 @@ pub fn parameter_list(alloc: Global, toks: &[Tok]) -> Result<Option<Parameters>,
         [first, ..] if is_close(first) => Ok(Some(Parameters {
             names: Names::new(alloc),
             variadic: false,
+            named: false,
             len: 1,
         })),
         _ => named_parameters(alloc, toks),
@@ -43,13 +45,16 @@ fn named_parameters(alloc: Global, toks: &[Tok]) -> Result<Option<Parameters>, M
     let mut at: usize = 0;
     'parameters: while let [first, sign, after @ ..] = rest {
         if is_ellipsis(first) {
-            return Ok(ended(names, true, at + 2, is_close(sign)));
+            return Ok(ended(names, true, false, at + 2, is_close(sign)));
         }
         if !add_parameter(&mut names, first)? {
             return Ok(None);
         }
+        if is_ellipsis(sign) {
+            return Ok(ended_named(names, at + 3, after));
+        }
         if !is_comma(sign) {
-            return Ok(ended(names, false, at + 2, is_close(sign)));
+            return Ok(ended(names, false, false, at + 2, is_close(sign)));
         }
         rest = after;
         at += 2;
@@ -69,16 +74,27 @@ fn add_parameter(names: &mut Names, tok: &Tok) -> Result<bool, Memory>
 }
 
 // A list that ends with a `)`, or is bad.
-fn ended(names: Names, variadic: bool, len: usize, closed: bool) -> Option<Parameters>
-    ensures { result ≡ ended names variadic len closed }
+fn ended(names: Names, variadic: bool, named: bool, len: usize, closed: bool) -> Option<Parameters>
+    ensures { result ≡ ended names variadic named len closed }
 {
     if closed {
         Some(Parameters {
             names,
             variadic,
+            named,
             len,
         })
     } else {
         None
+    }
+}
+
+// A list whose last name stands before the `...` that these tokens are behind.
+fn ended_named(names: Names, len: usize, behind: &[Tok]) -> Option<Parameters>
+    ensures { result ≡ ended_named names len behind.now }
+{
+    match behind {
+        [] => None,
+        [first, ..] => ended(names, false, true, len, is_close(first)),
     }
 }

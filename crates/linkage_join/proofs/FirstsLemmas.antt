@@ -18,13 +18,6 @@ option_or-assoc : {X : Type 0} (a b c : Option X) → option_or a (option_or b c
 option_or-assoc None b c = refl
 option_or-assoc (Some x) b c = refl
 
--- no token changes nothing
-pub with_names-none : (own : List ℕ) (table : Table) (project text : List ℕ) → table project text ≡ with_names own [] table project text
-with_names-none own table project text = elim (cases_Bool (bytes_eq project own)) [
-  | inl same ↦ rw same (sym (option_or-None (table project text)))
-  | inr other ↦ rw other (sym (option_or-None (table project text)))
-]
-
 -- tokens go in one after another
 pub with_names-push : (own : List ℕ) (toks : List Token) (t : Token) (table : Table) (project text : List ℕ)
     → with_names own (t ∷ []) (with_names own toks table) project text ≡ with_names own (toks ++ t ∷ []) table project text

@@ -83,13 +83,6 @@ woven_length order xs s more h is =
     let all = filled xs 0 s more h in
     rw long (rw same all)
 
--- what follows the woven items
-reordered_parts : {X : Type 0} (order : List ℕ) (xs : List X) (s : Span) (more : List Span)
-    → reordered order (s ∷ more) xs
-    ≡ take s.begin xs ++ (woven (picked order (map (text_of xs) (s ∷ more))) (between xs (s ∷ more)) ++ drop (end_of s more) xs)
-unfolding reordered
-reordered_parts order xs s more = refl
-
 -- a list that stands in order keeps the length of the text
 pub length-reordered : {X : Type 0} (order : List ℕ) (xs : List X) (l : List Span)
     → stand_in_order 0 (length xs) l ≡ true → IsOrder (length l) order → length (reordered order l xs) ≡ length xs
@@ -113,14 +106,6 @@ length-rearranged order l xs is = elim (cases_Bool (fits order l (length xs))) [
       rw fit (length-reordered order xs l p.1 (rw same is))
   | inr not ↦ rw not refl
 ]
-
--- so do all lists
-pub length-all_rearranged : {X : Type 0} (order : List ℕ) (lists : List (List Span)) (xs : List X) → IsOrder (length order) order
-    → length (all_rearranged order lists xs) ≡ length xs
-unfolding all_rearranged
-length-all_rearranged order [] xs is = refl
-length-all_rearranged order (l ∷ lists) xs is =
-    length-rearranged order l (all_rearranged order lists xs) is ∙ length-all_rearranged order lists xs is
 
 -- ---- the bytes that a list takes
 

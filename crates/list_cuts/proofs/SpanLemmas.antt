@@ -1,10 +1,10 @@
 -- Where the items of a list stand in a text.
-use Rattle.std.proofs.Common.{ℕ, zero, suc, ◌+◌, ◌-◌, ◌≡◌, ◌<◌, ◌≤◌, true, List, [], ◌∷◌, length, take, drop, map, get_or, refl, ap, arith}
+use Rattle.std.proofs.Common.{ℕ, zero, suc, ◌+◌, ◌-◌, ◌≡◌, ◌<◌, ◌≤◌, true, List, [], ◌∷◌, length, take, drop, get_or, refl, ap, arith}
 use Rattle.std.specs.Prelude.{nat_le, ◌&&◌}
 use Rattle.std.proofs.lemmas.Bool.{and_parts, leb-true}
-use Rattle.std.proofs.lemmas.List.{get_or-map, drop_all, drop_more}
+use Rattle.std.proofs.lemmas.List.{drop_all, drop_more}
 use Rattle.list_cuts.specs.declared.spans.Span.{Span}
-use Rattle.list_cuts.specs.Spans.{text_of, between, stand_in_order}
+use Rattle.list_cuts.specs.Spans.{between, stand_in_order}
 
 abbrev pub no_span : Span
 no_span = record { begin = 0; end = 0 }
@@ -61,10 +61,6 @@ stands_behind from size (suc k) (s ∷ more) h lt =
     rw on (stands_behind s.end size k more f.others (omega (arith, lt)))
 
 -- ---- the texts of items, and what stands between them
-
-pub text_at : {X : Type 0} (xs : List X) (l : List Span) (k : ℕ) → k < length l
-    → get_or (map (text_of xs) l) k [] ≡ text_of xs (get_or l k no_span)
-text_at xs l k lt = get_or-map (text_of xs) l k no_span [] lt
 
 pub between_at : {X : Type 0} (xs : List X) (l : List Span) (k : ℕ) → k + 1 < length l
     → get_or (between xs l) k [] ≡ take ((get_or l (k + 1) no_span).begin - (get_or l k no_span).end) (drop (get_or l k no_span).end xs)

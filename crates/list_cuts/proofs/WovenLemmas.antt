@@ -1,14 +1,11 @@
 -- The walk over the places of a list puts the items in the new order.
-use Rattle.std.proofs.Common.{ℕ, ◌+◌, ◌≡◌, ◌<◌, ◌≤◌, List, [], ◌++◌, length, drop, get_or, refl, sym, ◌∙◌, append_assoc, append-nil}
+use Rattle.std.proofs.Common.{ℕ, ◌+◌, ◌≡◌, ◌<◌, ◌≤◌, List, [], ◌++◌, length, drop, get_or, sym, ◌∙◌, append_assoc, append-nil}
 use Rattle.std.proofs.lemmas.List.{drop_more, drop_all}
 use Rattle.list_cuts.specs.Cuts.{woven}
 
 -- What is put out once so many places are done, and what the others give, is the whole.
 abbrev pub IsWoven : {X : Type 0} → List (List X) → List (List X) → List X → ℕ → Type 0
 IsWoven items gaps out k = out ++ woven (drop k items) (drop k gaps) ≡ woven items gaps
-
-pub woven_none : {X : Type 0} (items gaps : List (List X)) → IsWoven items gaps [] 0
-woven_none items gaps = refl
 
 pub woven_more : {X : Type 0} (items gaps : List (List X)) (out more last : List X) (k : ℕ) → k < length items → k < length gaps
     → more ≡ out ++ get_or items k [] → last ≡ more ++ get_or gaps k [] → IsWoven items gaps out k → IsWoven items gaps last (k + 1)

@@ -1,15 +1,15 @@
 -- Chains read part by part.
-use Rattle.std.proofs.Common.{◌≡◌, ◌&&◌, Bool, true, false, cond, List, [], ◌∷◌, ◌++◌, Option, Some, None, refl, ap, sym, ◌∙◌, append_assoc}
+use Rattle.std.proofs.Common.{◌≡◌, ℕ, ◌&&◌, Bool, true, false, cond, List, [], ◌∷◌, ◌++◌, map, Option, Some, None, refl, ap, sym, ◌∙◌, append_assoc}
 use Rattle.std.specs.Prelude.{is_some}
 use Rattle.std.specs.List.{list_all}
 use Rattle.std.proofs.lemmas.Bool.{and_parts, and_from}
 use Rattle.cs_base.specs.Token.{Token}
-use Rattle.line_shape.specs.Signs.{is_paste}
+use Rattle.line_shape.specs.Signs.{is_paste, is_comma}
 use Rattle.macro_body.specs.declared.definitions.Definition.{Definition}
 use Rattle.macro_body.specs.Macro.{parameter_at}
-use Rattle.macro_body.specs.Bodies.{Part, Paste, is_operator, param_or_plain, lone_part, quote_or, quoted_parameter, parts_from, pasted_to, chains_in, chains_of}
+use Rattle.macro_body.specs.Bodies.{Part, Plain, Param, Quote, Paste, Rest, token_of, is_operator, param_or_plain, lone_part, quote_or, quoted_parameter, parts_from, pasted_to, chains_in, rest_param, rest_of, rest_or, rest_or_chain, chains_of}
 use Rattle.macro_body.specs.BodyParts.{goes_on, onto_last, behind_operand, with_parts}
-use Rattle.macro_body.specs.Sound.{is_traced, token_of, chains_traced}
+use Rattle.macro_body.specs.Sound.{is_traced, chains_traced}
 
 -- the last chain goes on
 onto_last-append : (cs : List (List Part)) (c : List Part) (more : List (List Part)) → onto_last (cs ++ c ∷ []) more ≡ cs ++ goes_on c more
@@ -69,9 +69,6 @@ part-begun old new p plain is ps =
     ap (λ v. behind_operand v ps) is ∙ behind-begun old p ps
     ∙ sym (ap (λ b. cond b (onto_last old (chains_in ps)) (old ++ chains_in (p ∷ ps))) plain)
 
-pub part-operator : (old : List (List Part)) (p : Part) → is_operator p ≡ true → (ps : List Part) → onto_last old (chains_in ps) ≡ behind_operand old (p ∷ ps)
-part-operator old p operator ps = sym (ap (λ b. cond b (onto_last old (chains_in ps)) (old ++ chains_in (p ∷ ps))) operator)
-
 -- one token more
 pub parts_from-taken : (m : Definition) (t : Token) (ts : List Token) → parts_from m true (t ∷ ts) ≡ parts_from m false ts
 unfolding parts_from
@@ -88,8 +85,7 @@ unfolding parts_from chains_in
 read-all m true taken cs = onto_last-nil cs
 read-all m false taken cs = refl
 
-pub read-none : (m : Definition) → with_parts true [] (parts_from m false m.body) ≡ chains_of m
-unfolding chains_of
+pub read-none : (m : Definition) → with_parts true [] (parts_from m false m.body) ≡ chains_in (parts_from m false m.body)
 read-none m = refl
 
 -- the tokens of parts come from somewhere
@@ -135,10 +131,27 @@ chains_in-traced (p ∷ q ∷ ps) all =
     let behind = and_parts (is_traced (token_of q)) (parts_traced ps) each.1 in
     either-traced (is_operator q) p (chains_in ps) (chains_in (q ∷ ps)) each.0 (chains_in-traced ps behind.1) (chains_in-traced (q ∷ ps) each.1)
 
+rest_or-traced : (chain : List Part) (i : Option ℕ) → parts_traced chain ≡ true → parts_traced (rest_or chain i) ≡ true
+rest_or-traced chain None all = all
+rest_or-traced [] (Some i) all = refl
+rest_or-traced (p ∷ ps) (Some i) all = ap (λ b. b && true) (and_parts (is_traced (token_of p)) (parts_traced ps) all).0
+
+rests-traced : (m : Definition) (cs : List (List Part)) → chains_traced cs ≡ true → chains_traced (map (rest_or_chain m) cs) ≡ true
+rests-traced m [] all = refl
+rests-traced m (c ∷ cs) all =
+    let each = and_parts (parts_traced c) (chains_traced cs) all in
+    and_from (parts_traced (rest_or_chain m c)) (chains_traced (map (rest_or_chain m) cs)) (rest_or-traced c (rest_of m c) each.0) (rests-traced m cs each.1)
+
 -- the tokens of chains come from somewhere where those of the replacement list do
 pub chains_of-traced : (m : Definition) (cs : List (List Part)) → cs ≡ chains_of m → list_all is_traced m.body ≡ true → chains_traced cs ≡ true
 unfolding chains_of
-chains_of-traced m cs is all = ap chains_traced is ∙ chains_in-traced (parts_from m false m.body) (parts_from-traced m false m.body all)
+chains_of-traced m cs is all =
+    ap chains_traced is ∙ rests-traced m (chains_in (parts_from m false m.body)) (chains_in-traced (parts_from m false m.body) (parts_from-traced m false m.body all))
+
+-- the chains that were read make those of the macro
+pub rests-all : (m : Definition) (read cs : List (List Part)) → read ≡ chains_in (parts_from m false m.body) → cs ≡ map (rest_or_chain m) read → cs ≡ chains_of m
+unfolding chains_of
+rests-all m read cs was is = is ∙ ap (map (rest_or_chain m)) was
 
 -- the operand is the first one
 pub behind-first : (old mid new : List (List Part)) (p : Part) → old ≡ [] → mid ≡ [] → new ≡ mid ++ (p ∷ []) ∷ []
@@ -162,3 +175,24 @@ read-part m t ts operand next taken takes old new p free takes_is is added =
     ∙ ap (λ v. with_parts operand old (v ∷ parts_from m (is_some (quoted_parameter m t ts)) ts)) is
     ∙ ap (with_parts operand old) (sym (parts_from-more m t ts))
     ∙ ap (λ b. with_parts operand old (parts_from m b (t ∷ ts))) (sym free)
+
+-- what is true of a chain, and of the part that a comma and the variable arguments make
+no_rest : (Q : List Part → Type 0) (p q : Part) (o : Option ℕ) (gnu : Bool) → Q (p ∷ q ∷ []) → Q (rest_or (p ∷ q ∷ []) (cond (gnu && false) o None))
+no_rest Q p q o true h = h
+no_rest Q p q o false h = h
+
+pub rest_by : (Q : List Part → Type 0) (m : Definition) (c : List Part) → Q c → ((t : Token) (q : Part) (i : ℕ) → c ≡ Plain t ∷ q ∷ [] → Q (Rest t i ∷ []))
+    → Q (rest_or_chain m c)
+rest_by Q m [] h one = h
+rest_by Q m (p ∷ []) h one = h
+rest_by Q m (p ∷ q ∷ r ∷ ps) h one = h
+rest_by Q m (Param t i ∷ q ∷ []) h one = no_rest Q (Param t i) q (rest_param m q) m.gnu h
+rest_by Q m (Quote t i ∷ q ∷ []) h one = no_rest Q (Quote t i) q (rest_param m q) m.gnu h
+rest_by Q m (Paste t ∷ q ∷ []) h one = no_rest Q (Paste t) q (rest_param m q) m.gnu h
+rest_by Q m (Rest t i ∷ q ∷ []) h one = no_rest Q (Rest t i) q (rest_param m q) m.gnu h
+rest_by Q m (Plain t ∷ q ∷ []) h one = by (m.gnu && is_comma t) (rest_param m q)
+  where
+    by : (b : Bool) (o : Option ℕ) → Q (rest_or (Plain t ∷ q ∷ []) (cond b o None))
+    by true (Some i) = one t q i refl
+    by true None = h
+    by false o = h

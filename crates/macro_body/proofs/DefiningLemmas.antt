@@ -1,16 +1,17 @@
 -- What stands in a `define` line.
-use Rattle.std.proofs.Common.{◌≡◌, ℕ, zero, suc, ◌+◌, ◌<◌, ◌≤◌, Bool, true, false, List, [], ◌∷◌, length, take, drop, get_or, Option, Some, None, IsSome, is_none, Result, Ok, Err, IfOk, refl, sym, ◌∙◌, ap, subst, inl, inr, add-one, arith}
-use Rattle.std.specs.List.{list_any, position, position_or_len}
+use Rattle.std.proofs.Common.{◌≡◌, ℕ, zero, suc, ◌+◌, ◌<◌, ◌≤◌, ◌-◌, ◌&&◌, Bool, true, false, List, [], ◌∷◌, length, take, drop, get_or, Option, Some, None, IsSome, is_none, Result, Ok, Err, IfOk, refl, sym, ◌∙◌, ap, subst, inl, inr, add-one, arith}
+use Rattle.std.specs.List.{position, position_or_len}
 use Rattle.std.proofs.lemmas.Bool.{cases_Bool, lt-ltb}
+use Rattle.std.proofs.Math.Bool.{and-false}
 use Rattle.std.proofs.lemmas.List.Quantifiers.{position-Some}
 use Rattle.cs_base.specs.Token.{Token}
 use Rattle.cs_base.specs.declared.positions.Pos.{Pos}
 use Rattle.cs_base.specs.declared.causes.Cause.{Cause}
 use Rattle.line_shape.specs.declared.items.ItemKind.{ItemKind}
 use Rattle.line_shape.specs.declared.items.ItemKind.TheVariants.{Define}
-use Rattle.line_shape.specs.Signs.{is_hash, is_close, is_ellipsis}
+use Rattle.line_shape.specs.Signs.{is_hash, is_close, is_ellipsis, is_name}
 use Rattle.line_shape.specs.Directives.{directive_named}
-use Rattle.line_shape.specs.MacroLine.{MacroParts, macro, macro_of, is_function_like, function_macro, is_parameter_list, before_close, behind_close, params_in}
+use Rattle.line_shape.specs.MacroLine.{MacroParts, macro, macro_of, is_function_like, function_macro, is_parameter_list, before_close, behind_close, params_in, ends_in_rest, has_named_rest, has_plain_rest}
 use Rattle.line_shape.specs.BadLines.{causes_on, first_of, cause_on}
 use Rattle.line_shape.specs.Items.{line_kind, directive_kind, named_kind, kind_unless}
 use Rattle.macro_body.specs.declared.definitions.Definition.{Definition}
@@ -105,7 +106,7 @@ close-parts toks n d at =
     (parts.0, parts.1 ∙ ap (λ (k : ℕ). Some (drop k toks)) (sym (add-one n)))
 
 function_macro-parts : (list : List Token) (o : Option (List Token)) (parts : MacroParts) → function_macro list o ≡ Some parts
-    → (body : List Token) × (o ≡ Some body) × (parts ≡ macro true (params_in list) (list_any is_ellipsis list) body)
+    → (body : List Token) × (o ≡ Some body) × (parts ≡ macro true (params_in list) (has_plain_rest list) (has_named_rest list) body)
 function_macro-parts list None parts h = absurd (cc)
 function_macro-parts list (Some body) parts h =
     elim (cases_Bool (is_parameter_list list)) [
@@ -116,12 +117,12 @@ function_macro-parts list (Some body) parts h =
 -- a function-like macro has a `)`, and its parts
 pub macro_of-function : (toks : List Token) (parts : MacroParts) → is_function_like toks ≡ true → macro_of toks ≡ Some parts
     → (body : List Token) × (behind_close (drop 1 toks) ≡ Some body)
-    × (parts ≡ macro true (params_in (before_close (drop 1 toks))) (list_any is_ellipsis (before_close (drop 1 toks))) body)
+    × (parts ≡ macro true (params_in (before_close (drop 1 toks))) (has_plain_rest (before_close (drop 1 toks))) (has_named_rest (before_close (drop 1 toks))) body)
 unfolding macro_of
 macro_of-function toks parts function are =
     function_macro-parts (before_close (drop 1 toks)) (behind_close (drop 1 toks)) parts (rw function at are)
 
-pub macro_of-object : (toks : List Token) → is_function_like toks ≡ false → macro_of toks ≡ Some (macro false [] false toks)
+pub macro_of-object : (toks : List Token) → is_function_like toks ≡ false → macro_of toks ≡ Some (macro false [] false false toks)
 unfolding macro_of
 macro_of-object toks object = rw object refl
 
@@ -140,13 +141,13 @@ defined_by-are toks line name parts m at are same =
     rw (line.is, behind, same, named) refl
 
 pub defined_by-object : (toks : List Token) → DefineLine toks → (name : Token) (m : Definition) → name ≡ get_or toks 2 name
-    → is_function_like (drop 3 toks) ≡ false → m ≡ definition_of name (macro false [] false (drop 3 toks)) → defined_by toks ≡ Some m
+    → is_function_like (drop 3 toks) ≡ false → m ≡ definition_of name (macro false [] false false (drop 3 toks)) → defined_by toks ≡ Some m
 defined_by-object toks line name m at object same =
     defined_by-are toks line name _ m at (macro_of-object (drop 3 toks) object) same
 
 -- a function-like macro's list, of these parts
 abbrev pub list_parts : List Token → List Token → MacroParts
-list_parts toks body = macro true (params_in (before_close toks)) (list_any is_ellipsis (before_close toks)) body
+list_parts toks body = macro true (params_in (before_close toks)) (has_plain_rest (before_close toks)) (has_named_rest (before_close toks)) body
 
 function-parts : (toks : List Token) → DefineLine toks → is_function_like (drop 3 toks) ≡ true
     → (body : List Token) × (behind_close (drop 1 (drop 3 toks)) ≡ Some body) × (macro_of (drop 3 toks) ≡ Some (list_parts (drop 1 (drop 3 toks)) body))
@@ -169,3 +170,30 @@ defined_by-function toks line name m at function same =
 pub if_ok-more : {A E : Type 0} {P Q : A → Type 0} (r : Result A E) → IfOk r P → ((x : A) → P x → Q x) → IfOk r Q
 if_ok-more (Ok x) p more = more x p
 if_ok-more (Err e) p more = tt
+
+get-behind : (x : Token) (xs : List Token) (d : Token) (n k : ℕ) → n ≡ suc k → get_or (x ∷ xs) n d ≡ get_or xs k d
+get-behind x xs d n k is = ap (λ (i : ℕ). get_or (x ∷ xs) i d) is
+
+-- the last two tokens of a list say whether it ends in a name with `...` behind it
+ends-behind : (behind : Bool) (xs : List Token) (t u : Token) → 2 ≤ length xs → t ≡ get_or xs (length xs - 2) t → u ≡ get_or xs (length xs - 1) u
+    → ends_in_rest behind xs ≡ is_ellipsis u && is_name t
+ends-behind behind [] t u two first second = absurd (omega arith)
+ends-behind behind (x ∷ []) t u two first second = absurd (omega arith)
+ends-behind behind (x ∷ y ∷ []) t u two first second = rw (first, second) refl
+ends-behind behind (x ∷ y ∷ z ∷ xs) t u two first second =
+    let rest : List Token = y ∷ z ∷ xs in
+    let last_but_one : length (x ∷ rest) - 2 ≡ suc (length rest - 2) = omega arith in
+    let last : length (x ∷ rest) - 1 ≡ suc (length rest - 1) = omega arith in
+    ends-behind (is_name x) (y ∷ z ∷ xs) t u (omega arith)
+    (first ∙ get-behind x rest t (length (x ∷ rest) - 2) (length rest - 2) last_but_one)
+    (second ∙ get-behind x rest u (length (x ∷ rest) - 1) (length rest - 1) last)
+
+pub rest-last : (xs : List Token) (t u : Token) → 2 ≤ length xs → t ≡ get_or xs (length xs - 2) t → u ≡ get_or xs (length xs - 1) u
+    → has_named_rest xs ≡ is_ellipsis u && is_name t
+rest-last xs t u two first second = ends-behind false xs t u two first second
+
+-- a shorter list does not
+pub rest-short : (xs : List Token) → length xs < 2 → has_named_rest xs ≡ false
+rest-short [] short = refl
+rest-short (t ∷ []) short = and-false (is_ellipsis t)
+rest-short (t ∷ u ∷ xs) short = absurd (omega arith)

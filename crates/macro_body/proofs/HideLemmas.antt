@@ -1,5 +1,5 @@
 -- Hide sets as the spellings of tokens.
-use Rattle.std.proofs.Common.{◌≡◌, ℕ, ◌+◌, ◌<◌, List, [], ◌∷◌, ◌++◌, ◌||◌, Bool, true, false, length, take, get_or, Result, Ok, Err, IfOk, refl, ap, sym, ◌∙◌, append_assoc, arith}
+use Rattle.std.proofs.Common.{◌≡◌, ℕ, ◌+◌, ◌<◌, List, [], ◌∷◌, ◌++◌, ◌||◌, Bool, true, false, length, take, get_or, Result, Ok, Err, IfOk, refl, ap, sym, ◌∙◌, arith}
 use Rattle.std.specs.List.{flat_map, list_any}
 use Rattle.std.specs.Str.{bytes_eq}
 use Rattle.std.proofs.lemmas.List.{take_more, map-append}
@@ -60,13 +60,6 @@ pub hides-above : {P : Type 0} (f : P → List Token) (name : List ℕ) (ps : Li
     → list_any (λ (t : Token). bytes_eq name t.text) last ≡ false → list_any (λ p. list_any (λ (t : Token). bytes_eq name t.text) (f p)) ps ≡ hides_name hides name
 hides-above f name ps last hides is here =
     sym (hides-parts f name ps last hides is ∙ ap (λ (b : Bool). list_any (λ p. list_any (λ (t : Token). bytes_eq name t.text) (f p)) ps || b) here ∙ or-false _)
-
--- a name behind all others
-pub spelled-one : (front last more : List Token) (name : Token) (hides : List (List ℕ)) → spellings (front ++ last) ≡ hides → more ≡ last ++ name ∷ []
-    → spellings (front ++ more) ≡ hides ++ name.text ∷ []
-spelled-one front last more name hides was is =
-    ap (λ (ts : List Token). spellings (front ++ ts)) is ∙ ap spellings (sym (append_assoc front last (name ∷ [])))
-    ∙ map-append (λ (t : Token). t.text) (front ++ last) (name ∷ []) ∙ ap (λ (hs : List (List ℕ)). hs ++ name.text ∷ []) was
 
 -- the names behind the parts become one more part, and a name stands behind it
 pub spelled-part : {P : Type 0} (f : P → List Token) (ps qs : List P) (last more : List Token) (name : Token) (hides : List (List ℕ)) → spellings (flat_map f ps ++ last) ≡ hides

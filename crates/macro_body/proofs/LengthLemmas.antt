@@ -4,7 +4,7 @@ use Rattle.cs_base.specs.Token.{Token}
 use Rattle.paste_origin.specs.Pasting.{glue_of}
 use Rattle.paste_origin.specs.Strings.{StringFault}
 use Rattle.macro_body.specs.Hides.{Hidden}
-use Rattle.macro_body.specs.Bodies.{Part, Plain, Param, Quote, Paste}
+use Rattle.macro_body.specs.Bodies.{Part, Plain, Param, Quote, Paste, Rest}
 use Rattle.macro_body.specs.Substitution.{Arguments, Made, with_gap, part_cost, parts_cost, is_alone, chains_cost, cost_of, string_made, operand_made, operands_made, chains_made, token_pasted, pasted_behind, two_pasted, chain_pasted, chains_pasted, result_of}
 use Rattle.macro_body.proofs.ResultLemmas.{ok_same, err_ok, onward_ok}
 
@@ -30,6 +30,7 @@ length-operand_made name args lone (Paste t) m e = sym (ap (λ (v : Made (List H
 length-operand_made name args true (Param t i) m e = sym (ap (λ (v : Made (List Hidden)). length v.value) (ok_same _ m e))
 length-operand_made name args false (Param t i) m e = sym (ap (λ (v : Made (List Hidden)). length v.value) (ok_same _ m e))
 length-operand_made name args lone (Quote t i) m e = length-string_made name t _ _ m e
+length-operand_made name args lone (Rest t i) m e = sym (ap (λ (v : Made (List Hidden)). length v.value) (ok_same _ m e))
 
 total-operands_made : (name : Token) (args : Arguments) (lone : Bool) (ps : List Part) (m : Made (List (List Hidden)))
     → operands_made name args lone ps ≡ Ok m → total m.value ≡ parts_cost name args lone ps

@@ -1,4 +1,5 @@
 pub mod ResultLemmas
+pub mod RestLemmas
 pub mod LengthLemmas
 pub mod ChainLemmas
 mod LiveLemmas

@@ -1,30 +1,22 @@
 -- What is made, and what is kept of what happened, step by step.
 use Rattle.std.proofs.Common.{◌≡◌, ℕ, ◌+◌, ◌<◌, Bool, List, [], ◌∷◌, ◌++◌, length, get_or, drop, Option, Some, None, Result, Ok, Err, refl, ap, sym, subst, ◌∙◌, append_assoc}
 use Rattle.std.specs.Prelude.{IfSome}
-use Rattle.std.proofs.lemmas.List.{append-nil, at_drop_more}
+use Rattle.std.proofs.lemmas.List.{at_drop_more}
 use Rattle.cs_base.specs.Answer.{result_map_err}
 use Rattle.cs_base.specs.Token.{Token}
 use Rattle.paste_origin.specs.Strings.{StringFault}
 use Rattle.macro_body.specs.Hides.{Hidden, hidden}
 use Rattle.macro_body.specs.Bodies.{Part}
 use Rattle.macro_body.specs.Notes.{Fault, NotAString, Stringized, onward}
-use Rattle.macro_body.specs.Substitution.{Arguments, Made, made, made_both, put_in, is_alone, string_made, operand_made, operands_made, chains_made}
+use Rattle.macro_body.specs.Substitution.{Arguments, Made, made_both, put_in, is_alone, string_made, operand_made, operands_made, chains_made}
 use Rattle.macro_body.specs.Kept.{Kept, kept_with, made_kept}
 use Rattle.macro_body.proofs.ResultLemmas.{ok_same, err_ok}
-use Rattle.macro_body.proofs.KeptLemmas.{kept_with-append, kept_with-nil}
+use Rattle.macro_body.proofs.KeptLemmas.{kept_with-append}
 
 -- a list that is made, behind what was made before
 abbrev pub behind : {A : Type 0} → List A → Kept → Result (Made (List A)) Fault → Result (List A × Kept) Fault
 behind out kept (Ok m) = Ok (out ++ m.value, kept_with kept m.notes)
 behind out kept (Err fault) = Err fault
-
-pub behind-none : {A : Type 0} (kept : Kept) (r : Result (Made (List A)) Fault) → behind [] kept r ≡ made_kept kept r
-behind-none kept (Ok m) = refl
-behind-none kept (Err fault) = refl
-
--- nothing more is made
-pub behind-all : {A : Type 0} (out : List A) (kept : Kept) → behind out kept (Ok (made [] [])) ≡ Ok (out, kept)
-behind-all {A} out kept = λ i. Ok (append-nil out i, kept_with-nil kept i)
 
 -- what is made first, in front of the rest
 pub behind-more : {A : Type 0} (out : List A) (kept kept2 : Kept) (m : Result (Made A) Fault) (r : Result (Made (List A)) Fault) (v : A)

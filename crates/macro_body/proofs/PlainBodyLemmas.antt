@@ -4,7 +4,7 @@ use Rattle.std.specs.List.{list_all, flat_map}
 use Rattle.std.proofs.lemmas.Bool.{and_parts, false≢true}
 use Rattle.cs_base.specs.Token.{Token}
 use Rattle.macro_body.specs.Hides.{Hidden}
-use Rattle.macro_body.specs.Bodies.{Part, Plain, Param, Quote, Paste}
+use Rattle.macro_body.specs.Bodies.{Part, Plain, Param, Quote, Paste, Rest}
 use Rattle.macro_body.specs.Notes.{Fault, onward}
 use Rattle.macro_body.specs.Substitution.{Arguments, Made, made, made_both, is_alone, with_gap, operands_made, chains_made, chains_pasted, result_of}
 use Rattle.macro_body.specs.Kept.{Kept, kept_with, made_kept}
@@ -17,6 +17,7 @@ one-made name args [] h = absurd (false≢true h)
 one-made name args (Plain t ∷ []) h = refl
 one-made name args (Param t i ∷ []) h = refl
 one-made name args (Quote t i ∷ []) h = absurd (false≢true h)
+one-made name args (Rest t i ∷ []) h = absurd (false≢true h)
 one-made name args (Paste t ∷ []) h = refl
 one-made name args (p ∷ q ∷ ps) h = absurd (false≢true h)
 

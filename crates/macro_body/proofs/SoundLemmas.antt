@@ -12,10 +12,10 @@ use Rattle.lexer.specs.Spelling.{is_plain_string_text}
 use Rattle.paste_origin.specs.Pasting.{PasteFault, joined, pasted_as, glue_of}
 use Rattle.paste_origin.specs.Strings.{NotAString as NotAString_of, StringFault, string_text, string_origins, string_token, stringize_of}
 use Rattle.macro_body.specs.Hides.{Hidden, hidden, in_both, toks_of}
-use Rattle.macro_body.specs.Bodies.{Part, Plain, Param, Quote, Paste}
+use Rattle.macro_body.specs.Bodies.{Part, Plain, Param, Quote, Paste, Rest, token_of}
 use Rattle.macro_body.specs.Notes.{Fault, NotOneToken, NotAString, Stringized, Pasted, onward}
-use Rattle.macro_body.specs.Substitution.{Arguments, Made, made, made_both, put_in, moved_in, with_gap, argument_for, is_alone, string_made, operand_made, operands_made, chains_made, token_pasted, pasted_behind, two_pasted, chain_pasted, chains_pasted, result_of}
-use Rattle.macro_body.specs.Sound.{is_traced, is_low, is_sound, all_sound, is_argument, token_of, chains_traced}
+use Rattle.macro_body.specs.Substitution.{Arguments, Made, made, made_both, put_in, moved_in, with_gap, argument_for, rest_tokens, rest_for, is_alone, string_made, operand_made, operands_made, chains_made, token_pasted, pasted_behind, two_pasted, chain_pasted, chains_pasted, result_of}
+use Rattle.macro_body.specs.Sound.{is_traced, is_low, is_sound, all_sound, is_argument, chains_traced}
 use Rattle.macro_body.proofs.ResultLemmas.{ok_same, err_ok, onward_ok}
 
 -- What a replacement is given: a name at a line of a source file, and arguments that come from somewhere.
@@ -30,12 +30,6 @@ arguments-sound [] all = refl
 arguments-sound (a ∷ lists) all =
     let each = and_parts (is_argument a) (list_all is_argument lists) all in
     and_from (all_sound a) (list_all all_sound lists) (and_parts (all_sound a) (nat_lt (length a) (2 ^ 32)) each.0).0 (arguments-sound lists each.1)
-
--- the number of the tokens of an argument
-pub argument-few : (lists : List (List Hidden)) (i : ℕ) → list_all is_argument lists ≡ true → nat_lt (length (get_or lists i [])) (2 ^ 32) ≡ true
-argument-few [] i all = refl
-argument-few (a ∷ lists) zero all = (and_parts (all_sound a) (nat_lt (length a) (2 ^ 32)) (and_parts (is_argument a) (list_all is_argument lists) all).0).1
-argument-few (a ∷ lists) (suc i) all = argument-few lists i (and_parts (is_argument a) (list_all is_argument lists) all).1
 
 one-sound : (lists : List (List Hidden)) (i : ℕ) → list_all all_sound lists ≡ true → all_sound (get_or lists i []) ≡ true
 one-sound [] i all = refl
@@ -117,6 +111,12 @@ string_made-sound name sign low toks (Err fault) m traced e = err_ok (NotAString
 alone-sound : (v : List Hidden) (m : Made (List Hidden)) → all_sound v ≡ true → ◌≡◌ {A = Result (Made (List Hidden)) Fault} (Ok (made v [])) (Ok m) → all_sound m.value ≡ true
 alone-sound v m here e = subst (λ (w : Made (List Hidden)). all_sound w.value ≡ true) (ok_same (made v []) m e) here
 
+-- a comma with the variable arguments behind it
+rest_tokens-sound : (b : Bool) (name comma : Token) (hs : List Hidden) → is_low name ≡ true → is_traced comma ≡ true → all_sound hs ≡ true → all_sound (rest_tokens b name comma hs) ≡ true
+rest_tokens-sound true name comma hs low here all =
+    and_from (is_sound (hidden (put_in name comma.gap comma) [])) (all_sound (map moved_in hs)) (put_in-sound name comma.gap comma [] low here) (moved-sound hs all)
+rest_tokens-sound false name comma hs low here all = refl
+
 operand_made-sound : (name : Token) (args : Arguments) → SoundCall name args → (lone : Bool) (p : Part) → is_traced (token_of p) ≡ true → (m : Made (List Hidden))
     → operand_made name args lone p ≡ Ok m → all_sound m.value ≡ true
 operand_made-sound name args call lone (Plain t) here m e =
@@ -129,6 +129,9 @@ operand_made-sound name args call false (Param t i) here m e =
     alone-sound (argument_for t (get_or args.raw i [])) m (argument_for-sound t (get_or args.raw i []) (one-sound args.raw i call.raw)) e
 operand_made-sound name args call lone (Quote t i) here m e =
     string_made-sound name t call.low (toks_of (get_or args.raw i [])) (stringize_of (toks_of (get_or args.raw i []))) m (string-traced (toks_of (get_or args.raw i []))) e
+operand_made-sound name args call lone (Rest t i) here m e =
+    alone-sound (rest_for name t args.raw i) m
+    (rest_tokens-sound (nat_lt i (length args.raw)) name t (get_or args.raw i []) call.low here (one-sound args.raw i call.raw)) e
 
 operands_made-sound : (name : Token) (args : Arguments) → SoundCall name args → (lone : Bool) (ps : List Part) → list_all (λ p. is_traced (token_of p)) ps ≡ true
     → (m : Made (List (List Hidden))) → operands_made name args lone ps ≡ Ok m → list_all all_sound m.value ≡ true

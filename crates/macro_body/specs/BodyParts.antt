@@ -1,7 +1,7 @@
 -- Parts of replacement lists, as the program has them.
 use Rattle.std.specs.Prelude.{Bool, true, false, if◌then◌else◌, List, [], ◌∷◌, ◌++◌}
 use Rattle.cs_base.specs.Token.{Token}
-use Rattle.macro_body.specs.Bodies.{Part, Plain, Param, Quote, Paste, is_operator, chains_in}
+use Rattle.macro_body.specs.Bodies.{Part, Plain, Param, Quote, Paste, Rest, is_operator, chains_in}
 use Rattle.macro_body.specs.declared.chains.PartRole.{PartRole}
 use Rattle.macro_body.specs.declared.chains.PartRole.TheVariants as role
 
@@ -11,6 +11,7 @@ part_as t role.Plain = Plain t
 part_as t (role.Param i) = Param t i
 part_as t (role.Quote i) = Quote t i
 part_as t role.Paste = Paste t
+part_as t (role.Rest i) = Rest t i
 
 -- chains that go on with a chain that ends in a `##`
 abbrev pub goes_on : List Part → List (List Part) → List (List Part)

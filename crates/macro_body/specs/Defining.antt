@@ -23,8 +23,14 @@ definition_of name parts = record {
   form = form_of parts.function;
   params = parts.params;
   variadic = parts.variadic;
+  named = parts.named;
   body = parts.body;
+  gnu = false;
 }
+
+-- the same as a unit of GNU C or of another standard has it
+abbrev pub in_gnu : Bool → Definition → Definition
+in_gnu gnu m = record m { gnu = gnu }
 
 -- The definition that the tokens of a `define` line give: the name stands behind the `#` and the word.
 abbrev pub defined_by : List Token → Option Definition
@@ -43,7 +49,9 @@ first_definition form text = record {
   form = form;
   params = [];
   variadic = false;
+  named = false;
   body = [];
+  gnu = false;
 }
 
 -- `__LINE__` and `__FILE__`

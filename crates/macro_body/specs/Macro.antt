@@ -1,5 +1,5 @@
 -- Macros: what a name stands for (ISO/IEC 9899:1999, 6.10.3).
-use Rattle.std.specs.Prelude.{ℕ, ◌+◌, Bool, true, false, ◌&&◌, if◌then◌else◌, List, length, Option, Some, None, codes}
+use Rattle.std.specs.Prelude.{ℕ, ◌+◌, ◌-◌, Bool, true, false, ◌&&◌, if◌then◌else◌, List, length, Option, Some, None, codes}
 use Rattle.std.specs.List.{position}
 use Rattle.std.specs.Str.{bytes_eq}
 use Rattle.cs_base.specs.Token.{Token}
@@ -24,6 +24,10 @@ rest_name = codes "__VA_ARGS__"
 -- the number of the parameters, one for the variable arguments among them
 abbrev pub arity : Definition → ℕ
 arity m = length m.params + (if m.variadic then 1 else 0)
+
+-- how many parameters stand before the variable arguments, if it has these: they are one more, or the last one
+abbrev pub rest_number : Definition → Option ℕ
+rest_number m = if m.variadic then Some (length m.params) else if m.named then Some (length m.params - 1) else None
 
 -- which parameter has this spelling, from 0, if one has: the variable arguments come last
 abbrev pub named_or_rest : Definition → List ℕ → Option ℕ → Option ℕ

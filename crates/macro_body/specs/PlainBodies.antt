@@ -2,13 +2,14 @@
 use Rattle.std.specs.Prelude.{Bool, true, false, List, [], ◌∷◌}
 use Rattle.cs_base.specs.Token.{Token}
 use Rattle.macro_body.specs.Hides.{Hidden}
-use Rattle.macro_body.specs.Bodies.{Part, Quote}
+use Rattle.macro_body.specs.Bodies.{Part, Quote, Rest}
 use Rattle.macro_body.specs.Costs.{arguments}
 use Rattle.macro_body.specs.Substitution.{tokens_for}
 
--- no string is made of a part
+-- no string is made of a part, and it is none of the variable arguments as they stand
 abbrev pub is_kept : Part → Bool
 is_kept (Quote t i) = false
+is_kept (Rest t i) = false
 is_kept _ = true
 
 -- a chain is one such part

@@ -7,7 +7,7 @@ use Rattle.lexer.specs.Characters.{double_quote}
 use Rattle.macro_body.specs.declared.definitions.Definition.{Definition}
 use Rattle.macro_body.specs.Hides.{Hidden}
 use Rattle.macro_body.specs.Macro.{Table}
-use Rattle.macro_body.specs.Bodies.{Part, Plain, Param, Quote, Paste}
+use Rattle.macro_body.specs.Bodies.{Part, token_of}
 
 -- each character of a token has an origin, or a `"` stands among them: so has each token of a file, each
 -- string, and each token that is pasted of such tokens
@@ -28,13 +28,6 @@ all_sound hs = list_all is_sound hs
 -- arguments of such tokens, each of fewer than 2^32
 abbrev pub is_argument : List Hidden → Bool
 is_argument hs = all_sound hs && nat_lt (length hs) (2 ^ 32)
-
--- the token of a part of a replacement list
-abbrev pub token_of : Part → Token
-token_of (Plain t) = t
-token_of (Param t i) = t
-token_of (Quote t i) = t
-token_of (Paste t) = t
 
 -- the tokens of chains come from somewhere
 abbrev pub chains_traced : List (List Part) → Bool

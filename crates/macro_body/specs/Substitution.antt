@@ -1,6 +1,6 @@
 -- Replacement of a macro's name by its replacement list (ISO/IEC 9899:1999, 6.10.3.1 to 6.10.3.3,
 -- 6.10.8).
-use Rattle.std.specs.Prelude.{ℕ, zero, suc, ◌+◌, ◌-◌, ◌*◌, Bool, true, false, List, [], ◌∷◌, ◌++◌, length, map, Option, Some, None, Result, Ok, Err, replicate, get_or}
+use Rattle.std.specs.Prelude.{ℕ, zero, suc, ◌+◌, ◌-◌, ◌*◌, Bool, true, false, List, [], ◌∷◌, ◌++◌, length, map, Option, Some, None, Result, Ok, Err, replicate, get_or, nat_lt}
 use Rattle.std.specs.List.{flat_map}
 use Rattle.std.specs.Fmt.{decimal}
 use Rattle.cs_base.specs.declared.tokens.Kind.TheVariants.{Number, Str}
@@ -10,7 +10,7 @@ use Rattle.paste_origin.specs.Pasting.{PasteFault, glue_of}
 use Rattle.lexer.specs.Characters.{double_quote}
 use Rattle.paste_origin.specs.Strings.{StringFault, stringize_of, escaped}
 use Rattle.macro_body.specs.Hides.{Hidden, hidden, in_both, toks_of}
-use Rattle.macro_body.specs.Bodies.{Part, Plain, Param, Quote, Paste}
+use Rattle.macro_body.specs.Bodies.{Part, Plain, Param, Quote, Paste, Rest}
 use Rattle.macro_body.specs.Notes.{Fault, NotOneToken, NotAString, Note, Stringized, Pasted, onward}
 
 -- a token that a replacement puts in for a name: it stands where the name stands
@@ -35,6 +35,14 @@ pub record Arguments : Type 0 where
   pub raw : List (List Hidden)
   pub full : List (List Hidden)
 
+-- the comma, and the variable arguments as they stand; nothing where a call has none of these
+abbrev pub rest_tokens : Bool → Token → Token → List Hidden → List Hidden
+rest_tokens true name comma hs = hidden (put_in name comma.gap comma) [] ∷ map moved_in hs
+rest_tokens false name comma hs = []
+
+abbrev pub rest_for : Token → Token → List (List Hidden) → ℕ → List Hidden
+rest_for name comma raw i = rest_tokens (nat_lt i (length raw)) name comma (get_or raw i [])
+
 -- the tokens that stand for a part, a string being made later; a parameter beside `##` takes its argument
 -- as it stands
 abbrev pub tokens_for : Token → Arguments → Bool → Part → List Hidden
@@ -43,6 +51,7 @@ tokens_for name args lone (Paste t) = hidden (put_in name t.gap t) [] ∷ []
 tokens_for name args true (Param t i) = argument_for t (get_or args.full i [])
 tokens_for name args false (Param t i) = argument_for t (get_or args.raw i [])
 tokens_for name args lone (Quote t i) = []
+tokens_for name args lone (Rest t i) = rest_for name t args.raw i
 
 -- how many tokens stand for a part before strings are made and tokens are pasted: `#` and its parameter
 -- count one

@@ -1,29 +1,31 @@
 // Replacement lists as chains of operands (6.10.3, 6.10.3.2 and 6.10.3.3).
-ghost use Rattle.std.specs.Prelude.{◌≡◌, ◌++◌, ◌∷◌, [], List, IfOk, IsTrue};
+ghost use Rattle.std.specs.Prelude.{◌≡◌, ◌++◌, ◌∷◌, [], List, Some, IfOk, IsTrue, map, false};
 ghost use Rattle.std.specs.List.{list_all};
-ghost use Rattle.macro_body.specs.Bodies.{Part, is_operator as operator_part, lone_part, quote_or, parts_from, chains_in, chains_of, is_lone as lone_parameter, occurs_alone};
+ghost use Rattle.macro_body.specs.Bodies.{Part, is_operator as operator_part, lone_part, quote_or, parts_from, chains_in, is_number, is_plain_comma, rest_param, rest_of, rest_or, rest_or_chain, chains_of, is_lone as lone_parameter, occurs_alone};
 ghost use Rattle.macro_body.specs.Substitution.{is_alone as alone_chain};
 ghost use Rattle.macro_body.specs.BodyParts.{part_as, onto_last, behind_operand, with_parts};
 ghost use Rattle.macro_body.specs.ChainParts.{parts_in};
 ghost use Rattle.macro_body.specs.Sound.{is_traced, chains_traced};
 
 use crate::definitions::Definition;
-use crate::parameters::{parameter_at, quoted_parameter};
+use crate::parameters::{parameter_at, quoted_parameter, rest_number};
 use crate::shared_tokens::shared;
 use cs_base::{Memory, Tok};
-use line_shape::is_paste;
+use line_shape::{is_comma, is_paste};
 use std::alloc::Global;
 use std::marker::Model;
 use std::slice;
 
 /// What a token of a replacement list is: a token that stays, a parameter with its number, a `#` with
-/// the number of the parameter behind it, or a `##`.
+/// the number of the parameter behind it, a `##`, or in GNU C a comma with the variable arguments behind it
+/// and `##` between them.
 #[derive(Clone, Copy, Debug, PartialEq, Eq)]
 pub enum PartRole {
     Plain,
     Param(usize),
     Quote(usize),
     Paste,
+    Rest(usize),
 }
 
 /// A part of a replacement list.
@@ -96,6 +98,101 @@ fn is_alone(parts: &[BodyPart]) -> bool
 pub fn chains_of(alloc: Global, m: &Definition) -> Result<Vec<Chain>, Memory>
     ensures answer { IfOk result (λ chains. chains.items ≡ chains_of m.now) }
     ensures traced { IfOk result (λ chains. IsTrue (list_all is_traced m.now.body) → IsTrue (chains_traced chains.items)) }
+{
+    let chains = read_chains(alloc, m)?;
+    with_rests(alloc, m, chains)
+}
+
+// Chains, each of which is one part where it is a comma and the variable arguments.
+fn with_rests(alloc: Global, m: &Definition, chains: Vec<Chain>) -> Result<Vec<Chain>, Memory>
+    ensures { IfOk result (λ all. all.items ≡ map (rest_or_chain m.now) chains.items) }
+{
+    let mut all = Vec::with_capacity(alloc, chains.len())?;
+    for chain in chains {
+        all.push(rest_or_chain(alloc, m, chain)?)?;
+    }
+    Ok(all)
+}
+
+fn rest_or_chain(alloc: Global, m: &Definition, chain: Chain) -> Result<Chain, Memory>
+    ensures { IfOk result (λ c. c ≡ rest_or_chain m.now chain) }
+{
+    match rest_of(m, chain.parts()) {
+        Some(number) => rest_chain(alloc, chain.parts(), number),
+        None => Ok(chain),
+    }
+}
+
+// The part that a comma and the variable arguments with this number are.
+fn rest_chain(alloc: Global, parts: &[BodyPart], number: usize) -> Result<Chain, Memory>
+    ensures { IfOk result (λ c. c ≡ rest_or parts.now (Some number)) }
+{
+    match parts {
+        [] => Ok(Chain {
+            parts: Parts::Joined(Vec::new(alloc)),
+        }),
+        [comma, ..] => Ok(Chain {
+            parts: Parts::Lone(BodyPart {
+                tok: shared(&comma.tok)?,
+                role: PartRole::Rest(number),
+            }),
+        }),
+    }
+}
+
+// The number of the variable arguments, where these parts are a comma and these.
+fn rest_of(m: &Definition, parts: &[BodyPart]) -> Option<usize>
+    ensures { result ≡ rest_of m.now parts.now }
+{
+    match parts {
+        [comma, last] => {
+            if m.gnu && is_plain_comma(comma) {
+                rest_param(m, last)
+            } else {
+                None
+            }
+        }
+        _ => None,
+    }
+}
+
+// The same, if a part is these.
+fn rest_param(m: &Definition, part: &BodyPart) -> Option<usize>
+    ensures { result ≡ rest_param m.now part.now }
+{
+    match part.role {
+        PartRole::Param(number) => {
+            if is_number(number, rest_number(m)) {
+                Some(number)
+            } else {
+                None
+            }
+        }
+        _ => None,
+    }
+}
+
+fn is_number(number: usize, other: Option<usize>) -> bool
+    ensures { result ≡ is_number number other }
+{
+    match other {
+        None => false,
+        Some(other) => number == other,
+    }
+}
+
+fn is_plain_comma(part: &BodyPart) -> bool
+    ensures { result ≡ is_plain_comma part.now }
+{
+    match part.role {
+        PartRole::Plain => is_comma(&part.tok),
+        _ => false,
+    }
+}
+
+// The chains of a replacement list as the standard has them.
+fn read_chains(alloc: Global, m: &Definition) -> Result<Vec<Chain>, Memory>
+    ensures { IfOk result (λ chains. chains.items ≡ chains_in (parts_from m.now false m.now.body)) }
 {
     let body = m.body.as_slice();
     let mut reading = Reading {

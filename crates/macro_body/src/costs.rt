@@ -1,6 +1,7 @@
 // What a replacement costs of the work that is left.
-ghost use Rattle.std.specs.Prelude.{◌≡◌, [], get_or};
-ghost use Rattle.macro_body.specs.Substitution.{part_cost, chain_cost, cost_of};
+ghost use Rattle.std.specs.Prelude.{◌≡◌, [], get_or, length};
+ghost use Rattle.cs_base.specs.Token.{Token};
+ghost use Rattle.macro_body.specs.Substitution.{part_cost, chain_cost, cost_of, rest_for};
 ghost use Rattle.macro_body.specs.Costs.{left_of, arguments};
 
 use crate::chains::{BodyPart, Chain, PartRole};
@@ -82,6 +83,18 @@ fn part_cost(
                 argument(raw, number).len()
             }
         }
+        PartRole::Rest(number) => rest_cost(raw, number),
         _ => 1,
+    }
+}
+
+// How many tokens stand for a comma and the variable arguments behind it.
+fn rest_cost(raw: &[HiddenToks], number: usize) -> usize
+    ensures { (name comma : Token) → result ≡ length (rest_for name comma raw.now number) }
+{
+    if number < raw.len() {
+        argument(raw, number).len() + 1
+    } else {
+        0
     }
 }

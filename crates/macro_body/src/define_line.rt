@@ -4,14 +4,14 @@ ghost use Rattle.std.specs.List.{list_any, position};
 ghost use Rattle.cs_base.specs.Token.{Token};
 ghost use Rattle.line_shape.specs.declared.items.ItemKind.TheVariants.{Define};
 ghost use Rattle.line_shape.specs.Signs.{is_close, is_ellipsis};
-ghost use Rattle.line_shape.specs.MacroLine.{macro, is_function_like, before_close, behind_close, params_in};
+ghost use Rattle.line_shape.specs.MacroLine.{macro, is_function_like, before_close, behind_close, params_in, ends_in_rest, has_named_rest, has_plain_rest};
 ghost use Rattle.line_shape.specs.Items.{line_kind};
 ghost use Rattle.macro_body.specs.Defining.{defined_by, definition_of};
 
 use crate::definitions::{Definition, Form};
 use crate::shared_tokens::{all_shared, names_shared, shared};
 use cs_base::{Memory, Tok, Toks};
-use line_shape::{is_close, is_ellipsis, is_open};
+use line_shape::{is_close, is_ellipsis, is_name, is_open};
 use std::alloc::Global;
 
 impl Definition {
@@ -43,14 +43,16 @@ fn is_function_like(toks: &[Tok]) -> bool
 
 // An object-like macro (6.10.3 paragraph 9).
 fn object_like(alloc: Global, name: &Tok, body: &[Tok]) -> Result<Definition, Memory>
-    ensures { IfOk result (λ m. m ≡ definition_of name.now (macro false [] false body.now)) }
+    ensures { IfOk result (λ m. m ≡ definition_of name.now (macro false [] false false body.now)) }
 {
     Ok(Definition {
         name: shared(name)?,
         form: Form::Object,
         params: Toks::new(Vec::new(alloc)),
         variadic: false,
+        named: false,
         body: Toks::new(all_shared(alloc, body)?),
+        gnu: false,
     })
 }
 
@@ -58,7 +60,7 @@ fn object_like(alloc: Global, name: &Tok, body: &[Tok]) -> Result<Definition, Me
 fn function_like(alloc: Global, name: &Tok, toks: &[Tok]) -> Result<Definition, Memory>
     requires closed { IsSome (behind_close toks.now) }
     ensures { IfOk result (λ m. (body : List Token) → behind_close toks.now ≡ Some body →
-        m ≡ definition_of name.now (macro true (params_in (before_close toks.now)) (list_any is_ellipsis (before_close toks.now)) body)) }
+        m ≡ definition_of name.now (macro true (params_in (before_close toks.now)) (has_plain_rest (before_close toks.now)) (has_named_rest (before_close toks.now)) body)) }
 {
     let close = close_at(toks).unwrap();
     let list = &toks[..close];
@@ -66,8 +68,10 @@ fn function_like(alloc: Global, name: &Tok, toks: &[Tok]) -> Result<Definition, 
         name: shared(name)?,
         form: Form::Function,
         params: Toks::new(names_shared(alloc, list)?),
-        variadic: has_ellipsis(list),
+        variadic: has_plain_rest(list),
+        named: has_named_rest(list),
         body: Toks::new(all_shared(alloc, &toks[close + 1..])?),
+        gnu: false,
     })
 }
 
@@ -83,4 +87,21 @@ fn has_ellipsis(list: &[Tok]) -> bool
     ensures { result ≡ list_any is_ellipsis list.now }
 {
     list.iter().any(|tok| is_ellipsis(tok))
+}
+
+// Whether a list has `...`, but not behind a name.
+fn has_plain_rest(list: &[Tok]) -> bool
+    ensures { result ≡ has_plain_rest list.now }
+{
+    has_ellipsis(list) && !has_named_rest(list)
+}
+
+// Whether the last parameter of a list is `...` behind a name.
+fn has_named_rest(list: &[Tok]) -> bool
+    ensures { result ≡ has_named_rest list.now }
+{
+    match list {
+        [.., name, last] => is_ellipsis(last) && is_name(name),
+        _ => false,
+    }
 }

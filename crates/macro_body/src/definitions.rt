@@ -11,13 +11,15 @@ pub enum Form {
     File,
 }
 
-/// A macro: its name, its named parameters, whether variable arguments follow them, and its
-/// replacement list.
+/// A macro: its name, its named parameters, whether variable arguments follow them, whether the last of them
+/// stands for these, its replacement list, and whether a unit of GNU C defines it.
 #[derive(Drop)]
 pub struct Definition {
     pub name: Tok,
     pub form: Form,
     pub params: Toks,
     pub variadic: bool,
+    pub named: bool,
     pub body: Toks,
+    pub gnu: bool,
 }

@@ -170,8 +170,12 @@ pub fn push_argument(
     Ok(())
 }
 
-// Adds the tokens of an argument behind its first.
-fn push_moved(all: &mut Vec<HiddenTok>, alloc: Global, argument: &[HiddenTok]) -> Result<(), Memory>
+/// Adds the tokens of an argument, each with its own white space.
+pub fn push_moved(
+    all: &mut Vec<HiddenTok>,
+    alloc: Global,
+    argument: &[HiddenTok],
+) -> Result<(), Memory>
     ensures { IfOk result (λ _. all.new.items ≡ all.old.items ++ map moved_in argument.now) }
 {
     for h in argument {

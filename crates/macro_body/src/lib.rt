@@ -36,7 +36,7 @@ pub use hidden::{HiddenTok, HiddenToks, only};
 pub use hide_set::HideSet;
 pub use line_shape::{is_close, is_comma, is_name, is_open, is_word};
 pub use notes::{Notes, Replacement, Work};
-pub use parameters::is_function;
+pub use parameters::{is_function, rest_number};
 pub use predefined::{line_number, path_string};
 pub use shared_tokens::{all_shared, push_shared, shared};
 pub use substitution::{result_of, work_left};

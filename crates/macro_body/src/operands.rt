@@ -5,7 +5,7 @@ ghost use Rattle.cs_base.specs.Answer.{Gives, result_map_err};
 ghost use Rattle.paste_origin.specs.Strings.{stringize_of};
 ghost use Rattle.macro_body.specs.Hides.{hidden, toks_of};
 ghost use Rattle.macro_body.specs.Notes.{NotAString};
-ghost use Rattle.macro_body.specs.Substitution.{put_in, is_alone, tokens_for, string_made, operand_made, operands_made, chains_made};
+ghost use Rattle.macro_body.specs.Substitution.{put_in, is_alone, rest_for, tokens_for, string_made, operand_made, operands_made, chains_made};
 ghost use Rattle.macro_body.specs.Kept.{made_kept};
 ghost use Rattle.macro_body.specs.Faults.{fault_of};
 ghost use Rattle.macro_body.specs.Sound.{is_argument};
@@ -14,7 +14,7 @@ ghost use Rattle.macro_body.specs.Costs.{arguments};
 use crate::chains::{BodyPart, Chain, PartRole};
 use crate::costs::argument;
 use crate::fault::ExpandFault;
-use crate::hidden::{HiddenTok, HiddenToks, argument_for, only, put_in};
+use crate::hidden::{HiddenTok, HiddenToks, argument_for, only, push_moved, put_in};
 use crate::hide_set::HideSet;
 use crate::notes::Notes;
 use crate::shared_tokens::shared;
@@ -132,8 +132,27 @@ fn tokens_for(
             }
         }
         PartRole::Quote(_) => Ok(Vec::new(alloc)),
+        PartRole::Rest(number) => rest_for(alloc, name, &part.tok, raw, number),
         _ => alone(alloc, put_in(name, part.tok.gap(), &part.tok)?),
     }
+}
+
+// The comma, and the variable arguments as they stand; nothing where a call has none of these.
+fn rest_for(
+    alloc: Global,
+    name: &Tok,
+    comma: &Tok,
+    raw: &[HiddenToks],
+    number: usize,
+) -> Result<Vec<HiddenTok>, Memory>
+    ensures { IfOk result (λ toks. toks.items ≡ rest_for name.now comma.now raw.now number) }
+{
+    if number >= raw.len() {
+        return Ok(Vec::new(alloc));
+    }
+    let mut toks = alone(alloc, put_in(name, comma.gap(), comma)?)?;
+    push_moved(&mut toks, alloc, argument(raw, number))?;
+    Ok(toks)
 }
 
 // A token with an empty hide set.

@@ -3,7 +3,7 @@ ghost use Rattle.std.specs.Prelude.{◌≡◌};
 ghost use Rattle.std.specs.List.{position};
 ghost use Rattle.std.specs.Str.{bytes_eq};
 ghost use Rattle.cs_base.specs.Token.{Token};
-ghost use Rattle.macro_body.specs.Macro.{is_function, named_or_rest, parameter_at};
+ghost use Rattle.macro_body.specs.Macro.{is_function, rest_number, named_or_rest, parameter_at};
 ghost use Rattle.macro_body.specs.Bodies.{next_parameter, quoted_parameter};
 
 use crate::definitions::{Definition, Form};
@@ -73,5 +73,19 @@ pub fn is_function(form: Form) -> bool
     match form {
         Form::Function => true,
         _ => false,
+    }
+}
+
+/// How many parameters stand before the variable arguments, if the macro has these.
+pub fn rest_number(m: &Definition) -> Option<usize>
+    ensures { result ≡ rest_number m.now }
+{
+    let named = m.params.as_slice().len();
+    if m.variadic {
+        Some(named)
+    } else if m.named {
+        Some(named.saturating_sub(1))
+    } else {
+        None
     }
 }

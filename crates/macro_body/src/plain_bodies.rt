@@ -35,7 +35,7 @@ fn is_kept(part: &BodyPart) -> bool
     ensures { result ≡ kept_part part.now }
 {
     match part.role {
-        PartRole::Quote(_) => false,
+        PartRole::Quote(_) | PartRole::Rest(_) => false,
         _ => true,
     }
 }
@@ -84,7 +84,7 @@ fn push_part(
 {
     match part.role {
         PartRole::Param(number) => push_argument(all, alloc, &part.tok, argument(full, number)),
-        PartRole::Quote(_) => Ok(()),
+        PartRole::Quote(_) | PartRole::Rest(_) => Ok(()),
         _ => push_alone(all, alloc, put_in(name, part.tok.gap(), &part.tok)?),
     }
 }

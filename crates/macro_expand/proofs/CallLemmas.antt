@@ -1,14 +1,15 @@
 -- Calls: their arguments are no longer than what stands behind their `(`, and they are read token by token.
-use Rattle.std.proofs.Common.{◌≡◌, ℕ, zero, suc, ◌+◌, ◌-◌, ◌<◌, ◌≤◌, ◌&&◌, ◌==◌, Bool, true, false, cond, List, [], ◌∷◌, ◌++◌, length, Option, Some, None, refl, sym, ap, ◌∙◌, subst, append_assoc, arith}
+use Rattle.std.proofs.Common.{◌≡◌, ℕ, zero, suc, ◌+◌, ◌-◌, ◌<◌, ◌≤◌, ◌&&◌, ◌||◌, ◌==◌, Bool, true, false, cond, List, [], ◌∷◌, ◌++◌, length, map, Option, Some, None, refl, sym, ap, ◌∙◌, subst, append_assoc, arith}
 use Rattle.std.specs.Option.{option_map}
+use Rattle.std.proofs.lemmas.List.{length-map}
 use Rattle.std.proofs.lemmas.Option.{none-some, same_Some}
 use Rattle.cs_base.specs.Token.{Token}
 use Rattle.macro_body.specs.declared.definitions.Definition.{Definition}
 use Rattle.macro_body.specs.Below.line_shape.Signs.{is_open, is_close}
 use Rattle.macro_body.specs.Hides.{Hidden}
-use Rattle.macro_body.specs.Macro.{arity}
+use Rattle.macro_body.specs.Macro.{arity, rest_number}
 use Rattle.macro_expand.specs.Following.{IsTaken}
-use Rattle.macro_expand.specs.Calls.{Call, Role, Closes, Separates, Belongs, CallFrom, role_of, level_after, fewer, onto_first, with_token, with_argument, closed, call_step, call_from, is_blank, completed, arguments_of}
+use Rattle.macro_expand.specs.Calls.{Call, Role, Closes, Separates, Belongs, CallFrom, role_of, level_after, fewer, onto_first, with_token, with_argument, closed, call_step, call_from, is_blank, with_rest, completed_by, completed, lacks_rest, are_enough, arguments_of}
 
 -- each list has at most so many tokens
 pub data AllWithin : ℕ → List (List Hidden) → Type 0 where
@@ -66,11 +67,70 @@ pub cond_has : {A : Type 0} (P : A → Type 0) (b : Bool) (x y : A) → P x → 
 cond_has P true x y p q = p
 cond_has P false x y p q = q
 
+-- the arguments of a call in the end are none, those that stand there, or one more
+pub completed_has : (Q : List (List Hidden) → Type 0) (m : Definition) (lists : List (List Hidden)) → Q [] → Q lists → Q (lists ++ [] ∷ []) → Q (completed m lists)
+completed_has Q m lists nothing all longer = by (rest_number m)
+  where
+    rested : (gnu : Bool) (n : ℕ) → Q (with_rest gnu n lists)
+    rested true n = cond_has Q (n == 0 && is_blank lists) [] lists nothing all
+    rested false n = cond_has Q (length lists == n) (lists ++ [] ∷ []) lists longer all
+
+    by : (o : Option ℕ) → Q (completed_by m lists o)
+    by (Some n) = rested m.gnu n
+    by None = cond_has Q (arity m == 0 && is_blank lists) [] lists nothing all
+
+-- the same of lists that are made of each
+module _ (f : List Hidden → List Hidden) (empty : f [] ≡ []) (m m2 : Definition) (many : arity m2 ≡ arity m) (rest : rest_number m2 ≡ rest_number m) (gnu : m2.gnu ≡ m.gnu)
+    (lists : List (List Hidden)) (blank : is_blank (map f lists) ≡ is_blank lists) where
+  longer_mapped : (ls : List (List Hidden)) → map f ls ++ [] ∷ [] ≡ map f (ls ++ [] ∷ [])
+  longer_mapped [] = ap (λ (l : List Hidden). l ∷ []) (sym empty)
+  longer_mapped (l ∷ ls) = ap (λ (v : List (List Hidden)). f l ∷ v) (longer_mapped ls)
+
+  either_mapped : (b : Bool) (x y : List (List Hidden)) → cond b (map f x) (map f y) ≡ map f (cond b x y)
+  either_mapped true x y = refl
+  either_mapped false x y = refl
+
+  rest_mapped : (g : Bool) (n : ℕ) → with_rest g n (map f lists) ≡ map f (with_rest g n lists)
+  rest_mapped true n = ap (λ b. cond (n == 0 && b) [] (map f lists)) blank ∙ either_mapped (n == 0 && is_blank lists) [] lists
+  rest_mapped false n =
+      ap (λ k. cond (k == n) (map f lists ++ [] ∷ []) (map f lists)) (length-map lists f)
+      ∙ ap (λ v. cond (length lists == n) v (map f lists)) (longer_mapped lists)
+      ∙ either_mapped (length lists == n) (lists ++ [] ∷ []) lists
+
+  by_mapped : (o : Option ℕ) → completed_by m2 (map f lists) o ≡ map f (completed_by m lists o)
+  by_mapped (Some n) = ap (λ g. with_rest g n (map f lists)) gnu ∙ rest_mapped m.gnu n
+  by_mapped None =
+      ap (λ n. cond (n == 0 && is_blank (map f lists)) [] (map f lists)) many
+      ∙ ap (λ b. cond (arity m == 0 && b) [] (map f lists)) blank
+      ∙ either_mapped (arity m == 0 && is_blank lists) [] lists
+
+  completed_mapped : completed m2 (map f lists) ≡ map f (completed m lists)
+  completed_mapped = ap (completed_by m2 (map f lists)) rest ∙ by_mapped (rest_number m)
+
+  lacks_mapped : (n : ℕ) (o : Option ℕ) → lacks_rest m2 n o ≡ lacks_rest m n o
+  lacks_mapped n (Some k) = ap (λ g. g && n == k) gnu
+  lacks_mapped n None = refl
+
+  enough_mapped : (n : ℕ) → are_enough m2 n ≡ are_enough m n
+  enough_mapped n =
+      ap (λ k. n == k || lacks_rest m2 n (rest_number m2)) many
+      ∙ ap (λ o. n == arity m || lacks_rest m2 n o) rest
+      ∙ ap (λ b. n == arity m || b) (lacks_mapped n (rest_number m))
+
+  some_mapped : (b : Bool) (x : List (List Hidden)) → cond b (Some (map f x)) None ≡ option_map (map f) (cond b (Some x) None)
+  some_mapped true x = refl
+  some_mapped false x = refl
+
+  pub arguments_mapped : arguments_of m2 (map f lists) ≡ option_map (map f) (arguments_of m lists)
+  arguments_mapped =
+      let done = completed m lists in
+      ap (λ l. cond (are_enough m2 (length l)) (Some l) None) completed_mapped
+      ∙ ap (λ n. cond (are_enough m2 n) (Some (map f done)) None) (length-map done f)
+      ∙ ap (λ b. cond b (Some (map f done)) None) (enough_mapped (length done))
+      ∙ some_mapped (are_enough m (length done)) done
+
 completed_within : (m : Definition) (n : ℕ) (lists : List (List Hidden)) → AllWithin n lists → AllWithin n (completed m lists)
-completed_within m n lists h =
-    cond_has (AllWithin n) (arity m == 0 && is_blank lists) [] (cond (m.variadic && length lists == length m.params) (lists ++ [] ∷ []) lists) none
-    (cond_has (AllWithin n) (m.variadic && length lists == length m.params) (lists ++ [] ∷ []) lists
-    (AllWithin-append n lists ([] ∷ []) h (more (omega arith) none)) h)
+completed_within m n lists h = completed_has (AllWithin n) m lists none h (AllWithin-append n lists ([] ∷ []) h (more (omega arith) none))
 
 pub cond_some : {A : Type 0} (b : Bool) (x y : A) → cond b (Some x) None ≡ Some y → x ≡ y
 cond_some true x y e = same_Some x y e
@@ -78,7 +138,7 @@ cond_some false x y e = absurd (none-some y e)
 
 pub arguments_within : (m : Definition) (n : ℕ) (lists raw : List (List Hidden)) → AllWithin n lists → arguments_of m lists ≡ Some raw → AllWithin n raw
 arguments_within m n lists raw h e =
-    subst (AllWithin n) (cond_some (length (completed m lists) == arity m) (completed m lists) raw e) (completed_within m n lists h)
+    subst (AllWithin n) (cond_some (are_enough m (length (completed m lists))) (completed m lists) raw e) (completed_within m n lists h)
 
 -- A call read token by token: what is read so far, in front of what the rest gives.
 
@@ -100,10 +160,6 @@ before_first-blank (t ∷ ts) args = ap (onto_first t) (before_first-blank ts ar
 before_first-token : (present : List Hidden) (t : Hidden) (args : List (List Hidden)) → before_first present (onto_first t args) ≡ before_first (present ++ t ∷ []) args
 before_first-token [] t args = refl
 before_first-token (p ∷ ps) t args = ap (onto_first p) (before_first-token ps t args)
-
-pub in_front-nothing : (call : Option Call) → in_front [] [] call ≡ call
-in_front-nothing None = refl
-in_front-nothing (Some call) = refl
 
 in_front-argument : (finished : List (List Hidden)) (present : List Hidden) (call : Option Call)
     → in_front finished present (option_map with_argument call) ≡ in_front (finished ++ present ∷ []) [] call
@@ -141,10 +197,6 @@ unfolding call_from
 call_belongs finished present t ts commas level is =
     ap (λ (r : Role). in_front finished present (call_step r commas level t ts (call_from ts))) is
     ∙ in_front-token finished present t (call_from ts commas (level_after t.tok level))
-
-pub call_ends : (finished : List (List Hidden)) (present : List Hidden) (commas : Option ℕ) (level : ℕ) → in_front finished present (call_from [] commas level) ≡ None
-unfolding call_from
-call_ends finished present commas level = refl
 
 -- The same for what the program has.
 

@@ -1,5 +1,5 @@
 -- Calls of tokens that come from somewhere have arguments of such tokens, each no longer than the call.
-use Rattle.std.proofs.Common.{◌≡◌, ℕ, ◌+◌, ◌<◌, ◌^◌, ◌&&◌, ◌==◌, true, nat_lt, List, [], ◌∷◌, ◌++◌, length, Option, Some, None, Result, Ok, Err, IfOk, OnOk, IsTrue, refl, ap, sym, subst, ◌∙◌, arith}
+use Rattle.std.proofs.Common.{◌≡◌, ℕ, ◌+◌, ◌<◌, ◌^◌, ◌&&◌, true, nat_lt, List, [], ◌∷◌, ◌++◌, length, Option, Some, None, Result, Ok, Err, IfOk, OnOk, IsTrue, refl, ap, sym, subst, ◌∙◌, arith}
 use Rattle.std.specs.List.{list_all}
 use Rattle.std.proofs.lemmas.Bool.{and_parts, and_from, lt-ltb}
 use Rattle.std.proofs.lemmas.List.Folds.{list_all-append}
@@ -9,8 +9,7 @@ use Rattle.macro_expand.specs.declared.calls.CallToks.{CallToks}
 use Rattle.macro_body.specs.declared.definitions.Definition.{Definition}
 use Rattle.macro_body.specs.declared.fault.ExpandFault.{ExpandFault}
 use Rattle.macro_body.specs.Hides.{Hidden}
-use Rattle.macro_body.specs.Macro.{arity}
-use Rattle.macro_expand.specs.Calls.{Call, Role, Closes, Separates, Belongs, CallFrom, role_of, level_after, fewer, onto_first, with_token, with_argument, closed, call_step, call_from, is_blank, completed, arguments_of}
+use Rattle.macro_expand.specs.Calls.{Call, Role, Closes, Separates, Belongs, CallFrom, role_of, level_after, fewer, onto_first, with_token, with_argument, closed, call_step, call_from, completed, are_enough, arguments_of}
 use Rattle.macro_expand.specs.Following.{call_before}
 use Rattle.macro_body.specs.Notes.{Fault, WrongArguments}
 use Rattle.macro_expand.specs.Expansion.{added_by}
@@ -18,7 +17,7 @@ use Rattle.macro_body.specs.Faults.{fault_of}
 use Rattle.macro_body.specs.Sound.{is_sound, all_sound, are_fitting}
 use Rattle.macro_expand.specs.Going.{read_with}
 use Rattle.macro_body.proofs.ResultLemmas.{ok_same, err_ok}
-use Rattle.macro_expand.proofs.CallLemmas.{AllWithin, none, more, option_map_is, cond_has, cond_some, arguments_within}
+use Rattle.macro_expand.proofs.CallLemmas.{AllWithin, none, more, option_map_is, completed_has, cond_some, arguments_within}
 
 -- What stands in a call, and what follows it.
 pub record SoundCall (call : Call) : Type 0 where
@@ -56,12 +55,10 @@ AreSound lists = list_all all_sound lists ≡ true
 
 completed_sound : (m : Definition) (lists : List (List Hidden)) → AreSound lists → AreSound (completed m lists)
 completed_sound m lists h =
-    cond_has AreSound (arity m == 0 && is_blank lists) [] _ refl
-    (cond_has AreSound (m.variadic && length lists == length m.params) (lists ++ [] ∷ []) lists
-    (list_all-append all_sound lists ([] ∷ []) ∙ and_from (list_all all_sound lists) true h refl) h)
+    completed_has AreSound m lists refl h (list_all-append all_sound lists ([] ∷ []) ∙ and_from (list_all all_sound lists) true h refl)
 
 arguments_sound : (m : Definition) (lists raw : List (List Hidden)) → AreSound lists → arguments_of m lists ≡ Some raw → AreSound raw
-arguments_sound m lists raw h e = subst AreSound (cond_some (length (completed m lists) == arity m) (completed m lists) raw e) (completed_sound m lists h)
+arguments_sound m lists raw h e = subst AreSound (cond_some (are_enough m (length (completed m lists))) (completed m lists) raw e) (completed_sound m lists h)
 
 fitting_within : (n len : ℕ) (lists : List (List Hidden)) → n + len < 2 ^ 32 → AllWithin len lists → list_all all_sound lists ≡ true → are_fitting n lists ≡ true
 fitting_within n len [] few none h = refl

@@ -155,12 +155,3 @@ whole-call set depth before t p ts work m is function opens =
     whole-function set depth before t (p ∷ ts) work m is function
     ∙ ap (λ (b : Bool). cond b (called set (whole set) depth before t m work (call_from ts (commas_of m) 0)) (stays (whole set) depth before t (p ∷ ts) work)) opens
     ∙ called-read set (whole set) depth before t m work (call_from ts (commas_of m) 0)
-
--- the work that is left of an expansion without a fault
-pub finished_falls : (set : Setting) (depth before : ℕ) (ts : List Hidden) (work : ℕ) (k k2 : Kept) (toks : List Hidden) (left : ℕ)
-    → finished k [] (whole set depth before ts work) ≡ Ok (toks, left, k2) → (e : Expanded) × (whole set depth before ts work ≡ Ok e) × (e.left ≡ left)
-finished_falls set depth before ts work k k2 toks left h = found (whole set depth before ts work) h
-  where
-    found : (r : Result Expanded Fault) → finished k [] r ≡ Ok (toks, left, k2) → (e : Expanded) × (r ≡ Ok e) × (e.left ≡ left)
-    found (Err f) h = err_ok f _ h
-    found (Ok e) h = (e, refl, ap (λ (v : List Hidden × ℕ × Kept). v.1) (ok_same (e.toks, e.left, kept_with k e.notes) (toks, left, k2) h))

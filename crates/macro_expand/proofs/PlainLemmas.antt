@@ -59,11 +59,6 @@ pub plain_taken : (table : Table) (o : Option Token) (t : Token) (ts rest : List
 plain_taken table o t ts rest is taken =
     let P : Option Token → Type 0 = λ v. IsPlain table v ts rest in subst P is taken
 
--- where nothing was, nothing changed
-pub plain_left : (table : Table) (o : Option Token) (ts rest : List Hidden) → o ≡ None → IsPlain table o ts rest → ts ≡ rest
-plain_left table o ts rest is taken =
-    let P : Option Token → Type 0 = λ v. IsPlain table v ts rest in subst P is taken
-
 pub sound_behind : (t : Token) (ts rest : List Hidden) → ts ≡ hidden t [] ∷ rest → all_sound ts ≡ true → all_sound rest ≡ true
 sound_behind t ts rest split sound =
     (and_parts (is_sound (hidden t [])) (all_sound rest) (sym (ap all_sound split) ∙ sound)).1

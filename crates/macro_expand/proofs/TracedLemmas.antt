@@ -1,13 +1,13 @@
 -- Replacement lists and runs that are read from a file: their tokens come from somewhere.
-use Rattle.std.proofs.Common.{◌≡◌, ℕ, zero, suc, ◌+◌, ◌-◌, ◌<◌, ◌≤◌, ◌&&◌, Bool, true, false, cond, List, [], ◌∷◌, ◌++◌, length, take, drop, get_or, Option, Some, None, Result, Ok, Err, IsTrue, is_some, nat_lt, OnOk, refl, ap, sym, subst, ◌∙◌, append_assoc, arith}
-use Rattle.std.specs.Prelude.{◌^◌, All, slice_get}
+use Rattle.std.proofs.Common.{◌≡◌, ℕ, suc, ◌+◌, ◌-◌, ◌<◌, ◌≤◌, ◌&&◌, Bool, true, false, cond, List, [], ◌∷◌, ◌++◌, length, take, drop, get_or, Option, Some, None, Result, Ok, Err, IsTrue, is_some, OnOk, refl, ap, sym, subst, ◌∙◌, append_assoc, arith}
+use Rattle.std.specs.Prelude.{All, slice_get}
 use Rattle.std.specs.Bool.{OnTrue}
 use Rattle.std.specs.List.{list_all}
 use Rattle.std.specs.Option.{option_and_then}
 use Rattle.std.specs.Str.{bytes_eq}
 use Rattle.std.proofs.lemmas.Option.{same_Some}
 use Rattle.std.proofs.lemmas.List.{drop-drop}
-use Rattle.std.proofs.lemmas.Bool.{lt-ltb, and_parts}
+use Rattle.std.proofs.lemmas.Bool.{and_parts}
 use Rattle.std.proofs.lemmas.List.Elements.{All-nil, All-cons, All-same}
 use Rattle.std.proofs.Math.Seq.{take-append_seam, drop-append_seam}
 use Rattle.cs_base.specs.Token.{Token, IsToken, origin_at}
@@ -172,19 +172,3 @@ pub traced-none : (table : Table) → table ≡ no_macro → AllTraced table
 traced-none table is =
     let P : Table → Type 0 = AllTraced in
     subst P (sym is) traced-no_macro
-
-pub list_all-more : (p : Token → Bool) (ts : List Token) (k : ℕ) (t : Token) → k < length ts → t ≡ get_or ts k t → list_all p (take k ts) ≡ true → p t ≡ true → list_all p (take (k + 1) ts) ≡ true
-list_all-more p [] k t below is h here = absurd (omega arith)
-list_all-more p (u ∷ ts) zero t below is h here = let first : p u ≡ true = ap p (sym is) ∙ here in rw first refl
-list_all-more p (u ∷ ts) (suc k) t below is h here =
-    let both = and_parts (p u) (list_all p (take k ts)) h in
-    let rest = list_all-more p ts k t (omega arith) is both.1 here in
-    let on : suc k + 1 ≡ suc (k + 1) = omega arith in
-    rw on (rw (both.0, rest) refl)
-
-pub sound-token : (r : Bool) (t : Token) (line : ℕ) → r ≡ true → OnTrue r (IsTrue (list_all is_some t.origins)) → line ≡ t.line → line ≤ 2 ^ 22 → (is_traced t && is_low t) ≡ true
-sound-token true t line e h is low =
-    let traced : list_all is_some t.origins ≡ true = h in
-    let below : nat_lt t.line (2 ^ 22 + 1) ≡ true = lt-ltb t.line (2 ^ 22 + 1) (omega arith) in
-    rw (traced, below) refl
-sound-token false t line e h is low = absurd (cc)

@@ -1,11 +1,11 @@
 -- Calls of function-like macros (ISO/IEC 9899:1999, 6.10.3 paragraphs 4 and 10 to 12).
-use Rattle.std.specs.Prelude.{ℕ, zero, suc, ◌+◌, ◌-◌, ◌&&◌, ◌==◌, Bool, true, false, if◌then◌else◌, List, [], ◌∷◌, ◌++◌, length, Option, Some, None}
+use Rattle.std.specs.Prelude.{ℕ, zero, suc, ◌+◌, ◌-◌, ◌&&◌, ◌||◌, ◌==◌, Bool, true, false, if◌then◌else◌, List, [], ◌∷◌, ◌++◌, length, Option, Some, None}
 use Rattle.std.specs.Option.{option_map}
 use Rattle.cs_base.specs.Token.{Token}
 use Rattle.macro_body.specs.declared.definitions.Definition.{Definition}
 use Rattle.macro_body.specs.Below.line_shape.Signs.{is_open, is_close, is_comma}
 use Rattle.macro_body.specs.Hides.{Hidden}
-use Rattle.macro_body.specs.Macro.{arity}
+use Rattle.macro_body.specs.Macro.{arity, rest_number}
 
 -- What stands behind the `(` of a call: the arguments as they stand, the hide set of the `)`, and what
 -- follows it.
@@ -70,23 +70,39 @@ unfoldable pub call_from : List Hidden → CallFrom
 call_from [] commas level = None
 call_from (t ∷ ts) commas level = call_step (role_of commas level t.tok) commas level t ts (call_from ts)
 
--- how many commas separate the arguments of a macro: as many as it has named parameters where the rest
--- are variable arguments (6.10.3 paragraph 12)
+-- how many commas separate the arguments of a macro: as many as it has parameters before variable arguments, if it has
+-- these (6.10.3 paragraph 12)
 abbrev pub commas_of : Definition → Option ℕ
-commas_of m = if m.variadic then Some (length m.params) else None
+commas_of m = rest_number m
 
 -- nothing stands between the parentheses
 abbrev pub is_blank : List (List Hidden) → Bool
 is_blank ([] ∷ []) = true
 is_blank _ = false
 
--- the arguments, none where nothing stands between the parentheses and no parameter is there; and the
--- variable arguments are empty where they are missing
-abbrev pub completed : Definition → List (List Hidden) → List (List Hidden)
-completed m args =
-    if arity m == 0 && is_blank args then [] else
-    (if m.variadic && length args == length m.params then args ++ [] ∷ [] else args)
+-- the arguments of a call of a macro that has so many parameters before variable arguments: these are empty where they
+-- are missing, and in GNU C they stay away
+abbrev pub with_rest : Bool → ℕ → List (List Hidden) → List (List Hidden)
+with_rest true n args = if n == 0 && is_blank args then [] else args
+with_rest false n args = if length args == n then args ++ [] ∷ [] else args
 
--- the arguments of a call, or none where their number is wrong (6.10.3 paragraph 4)
+-- the arguments, none where nothing stands between the parentheses and no parameter is there
+abbrev pub completed_by : Definition → List (List Hidden) → Option ℕ → List (List Hidden)
+completed_by m args (Some n) = with_rest m.gnu n args
+completed_by m args None = if arity m == 0 && is_blank args then [] else args
+
+abbrev pub completed : Definition → List (List Hidden) → List (List Hidden)
+completed m args = completed_by m args (rest_number m)
+
+-- a call may have so many arguments (6.10.3 paragraph 4): as many as the macro has parameters, and in GNU C none for the
+-- variable arguments
+abbrev pub lacks_rest : Definition → ℕ → Option ℕ → Bool
+lacks_rest m count (Some n) = m.gnu && count == n
+lacks_rest m count None = false
+
+abbrev pub are_enough : Definition → ℕ → Bool
+are_enough m count = count == arity m || lacks_rest m count (rest_number m)
+
+-- the arguments of a call, or none where their number is wrong
 abbrev pub arguments_of : Definition → List (List Hidden) → Option (List (List Hidden))
-arguments_of m args = if length (completed m args) == arity m then Some (completed m args) else None
+arguments_of m args = if are_enough m (length (completed m args)) then Some (completed m args) else None

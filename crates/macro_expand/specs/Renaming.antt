@@ -42,7 +42,9 @@ renamed_macro r m = record {
   form = m.form;
   params = map (renamed r) m.params;
   variadic = m.variadic;
+  named = m.named;
   body = map (renamed r) m.body;
+  gnu = m.gnu;
 }
 
 abbrev pub renamed_note : Renaming → Note → Note

@@ -1,13 +1,13 @@
 // Calls of function-like macros (6.10.3 paragraphs 4 and 10 to 12).
-ghost use Rattle.std.specs.Prelude.{◌≡◌, ◌+◌, ◌<◌, ◌^◌, IfOk};
+ghost use Rattle.std.specs.Prelude.{◌≡◌, ◌+◌, ◌<◌, ◌^◌, IfOk, [], ◌&&◌, if◌then◌else◌};
 ghost use Rattle.std.specs.Option.{option_map};
-ghost use Rattle.macro_expand.specs.Calls.{role_of, level_after, separates, fewer, call_from, commas_of, is_blank, completed, arguments_of};
+ghost use Rattle.macro_expand.specs.Calls.{role_of, level_after, separates, fewer, call_from, commas_of, is_blank, with_rest, completed_by, completed, lacks_rest, are_enough, arguments_of};
 ghost use Rattle.macro_body.specs.Macro.{arity};
 ghost use Rattle.macro_expand.specs.Following.{role_as, call_before};
 
 use crate::rest::Rest;
 use cs_base::{Memory, Tok};
-use macro_body::{Definition, HiddenToks, HideSet, is_close, is_comma, is_open};
+use macro_body::{Definition, HiddenToks, HideSet, is_close, is_comma, is_open, rest_number};
 use std::alloc::Global;
 use std::mem;
 
@@ -114,11 +114,7 @@ fn fewer(commas: Option<usize>) -> Option<usize>
 pub fn commas_of(m: &Definition) -> Option<usize>
     ensures { result ≡ commas_of m.now }
 {
-    if m.variadic {
-        Some(m.params.as_slice().len())
-    } else {
-        None
-    }
+    rest_number(m)
 }
 
 /// The arguments of a call, or none where their number is wrong (6.10.3 paragraph 4).
@@ -129,23 +125,72 @@ pub fn arguments_of(
     ensures { IfOk result (λ raw. option_map (λ r. r.items) raw ≡ arguments_of m.now arguments.items) }
 {
     let arguments = completed(m, arguments)?;
-    if arguments.len() == arity(m) {
+    if are_enough(m, arguments.len()) {
         Ok(Some(arguments))
     } else {
         Ok(None)
     }
 }
 
-// The arguments, none where nothing stands between the parentheses of a macro without parameters, and
-// with empty variable arguments where those are missing.
-fn completed(m: &Definition, mut arguments: Vec<HiddenToks>) -> Result<Vec<HiddenToks>, Memory>
+// Whether a call may have so many arguments: in GNU C also none for the variable arguments.
+fn are_enough(m: &Definition, count: usize) -> bool
+    ensures { result ≡ are_enough m.now count }
+{
+    count == arity(m) || lacks_rest(m, count, rest_number(m))
+}
+
+fn lacks_rest(m: &Definition, count: usize, rest: Option<usize>) -> bool
+    ensures { result ≡ lacks_rest m.now count rest }
+{
+    match rest {
+        Some(named) => m.gnu && count == named,
+        None => false,
+    }
+}
+
+// The arguments, none where nothing stands between the parentheses of a macro without parameters.
+fn completed(m: &Definition, arguments: Vec<HiddenToks>) -> Result<Vec<HiddenToks>, Memory>
     ensures { IfOk result (λ all. all.items ≡ completed m.now arguments.items) }
 {
-    if arity(m) == 0 && is_blank(&arguments) {
-        arguments.clear();
-        return Ok(arguments);
+    completed_by(m, arguments, rest_number(m))
+}
+
+// The same, so many parameters standing before the variable arguments if the macro has these.
+fn completed_by(
+    m: &Definition,
+    arguments: Vec<HiddenToks>,
+    rest: Option<usize>,
+) -> Result<Vec<HiddenToks>, Memory>
+    ensures { IfOk result (λ all. all.items ≡ completed_by m.now arguments.items rest) }
+{
+    match rest {
+        Some(named) => with_rest(m.gnu, named, arguments),
+        None => Ok(without_blank(arity(m) == 0, arguments)),
     }
-    if m.variadic && arguments.len() == m.params.as_slice().len() {
+}
+
+// No arguments where nothing stands between the parentheses.
+fn without_blank(alone: bool, mut arguments: Vec<HiddenToks>) -> Vec<HiddenToks>
+    ensures { result.items ≡ (if alone && is_blank arguments.items then [] else arguments.items) }
+{
+    if alone && is_blank(&arguments) {
+        arguments.clear();
+    }
+    arguments
+}
+
+// The variable arguments are empty where they are missing, and stay away in GNU C.
+fn with_rest(
+    gnu: bool,
+    named: usize,
+    mut arguments: Vec<HiddenToks>,
+) -> Result<Vec<HiddenToks>, Memory>
+    ensures { IfOk result (λ all. all.items ≡ with_rest gnu named arguments.items) }
+{
+    if gnu {
+        return Ok(without_blank(named == 0, arguments));
+    }
+    if arguments.len() == named {
         let none = Vec::new(*arguments.allocator());
         arguments.push(HiddenToks::new(none))?;
     }

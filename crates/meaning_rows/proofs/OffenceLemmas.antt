@@ -17,6 +17,8 @@ use Rattle.analysis.specs.FileTokens.{file_tokens}
 use Rattle.analysis.proofs.NamingLemmas.{in_left, in_right, in_filter, map_at}
 use Rattle.offences.specs.declared.firsts.Offence.{Offence}
 use Rattle.offences.specs.First.{offence, standing}
+use Rattle.rename_rules.specs.GnuOffences.{gnu_offences}
+use Rattle.rename_rules.proofs.FailingLemmas.{still_stands}
 use Rattle.rename_rules.specs.Offences.{member_offences, spelling_offences, offences_of, occurring_place, occurring_places, clashing_place, clashing_places, too_large_places, is_shadow, bare_place, bare_places, shadowed_places}
 use Rattle.rename_rules.specs.Tokens.{all_file_tokens, pasted_tokens, starts_in, holders, is_new_spelling, is_old_spelling, clashes}
 use Rattle.offences.specs.Tokens.{holds_member, first_place}
@@ -62,28 +64,34 @@ module _ (a : AnalysisValue) (members : List Part) (name : List ℕ) where
   abbrev shadowing : List Offence
   shadowing = standing ShadowedTypedef (shadowed_places a members)
 
+  abbrev assembling : List Offence
+  assembling = gnu_offences a members name
+
   of_spellings : (o : Offence) → In o (spelling_offences a members name) → In o (offences_of a members name false)
-  of_spellings o i = in_right o (member_offences a members name false) (spelling_offences a members name) i
+  of_spellings o i =
+      still_stands a members name (member_offences a members name false ++ spelling_offences a members name) o
+      (in_right o (member_offences a members name false) (spelling_offences a members name) i)
 
   pub occurs_stands : (p : Pos) → In p (occurring_places a members name) → In (offence Occurs p) (offences_of a members name false)
   unfolding spelling_offences
   occurs_stands p i =
       let o : Offence = offence Occurs p in
-      of_spellings o (in_left o (occurring ++ clashing ++ sized) shadowing (in_left o (occurring ++ clashing) sized
-      (in_left o occurring clashing (stands Occurs (occurring_places a members name) p i))))
+      of_spellings o (in_left o (occurring ++ clashing ++ sized ++ shadowing) assembling (in_left o (occurring ++ clashing ++ sized) shadowing (in_left o (occurring ++ clashing) sized
+      (in_left o occurring clashing (stands Occurs (occurring_places a members name) p i)))))
 
   pub clash_stands : (p : Pos) → In p (clashing_places a members name) → In (offence Clash p) (offences_of a members name false)
   unfolding spelling_offences
   clash_stands p i =
       let o : Offence = offence Clash p in
-      of_spellings o (in_left o (occurring ++ clashing ++ sized) shadowing (in_left o (occurring ++ clashing) sized
-      (in_right o occurring clashing (stands Clash (clashing_places a members name) p i))))
+      of_spellings o (in_left o (occurring ++ clashing ++ sized ++ shadowing) assembling (in_left o (occurring ++ clashing ++ sized) shadowing (in_left o (occurring ++ clashing) sized
+      (in_right o occurring clashing (stands Clash (clashing_places a members name) p i)))))
 
   pub shadow_stands : (p : Pos) → In p (shadowed_places a members) → In (offence ShadowedTypedef p) (offences_of a members name false)
   unfolding spelling_offences
   shadow_stands p i =
       let o : Offence = offence ShadowedTypedef p in
-      of_spellings o (in_right o (occurring ++ clashing ++ sized) shadowing (stands ShadowedTypedef (shadowed_places a members) p i))
+      of_spellings o (in_left o (occurring ++ clashing ++ sized ++ shadowing) assembling
+      (in_right o (occurring ++ clashing ++ sized) shadowing (stands ShadowedTypedef (shadowed_places a members) p i)))
 
 module _ (r : Row) (a : AnalysisValue) (h : IsOf r a) (members : List Part) (name : List ℕ) where
   -- ---- tokens

@@ -9,6 +9,7 @@ use Rattle.analysis.specs.Below.c99_read.Reading.{read_of}
 use Rattle.analysis.specs.Below.c99_grammar.Dialects.{dialect}
 use Rattle.analysis.specs.Below.c99_grammar.Standard.{c99, grammar}
 use Rattle.analysis.specs.Below.scope_bind.Bound.{Bound, binding_of}
+use Rattle.analysis.specs.Below.gnu_bind.Bound.{binding_by}
 use Rattle.analysis.specs.Analysis.{UnitAnalysis, AnalysisValue}
 use Rattle.edited_unit_laws.specs.Lines.{Each}
 use Rattle.edited_unit_laws.specs.Analyses.{IsRead, ReadsAlike}
@@ -35,7 +36,7 @@ module _ (toks : List Token) (tree : Node) (bound : Bound) (old : ReadSo toks tr
 
   pub unit_bound : u.bound ≡ bound
   unit_bound =
-      let binds : binding_of toks u.tree ≡ Ok u.bound = subst (λ (ts : List Token). binding_of ts u.tree ≡ Ok u.bound) has read.binds in
+      let binds : binding_of toks u.tree ≡ Ok u.bound = subst (λ (ts : List Token). binding_of ts u.tree ≡ Ok u.bound) has (subst (λ (s : Standard). binding_by s u.text.toks u.tree ≡ Ok u.bound) is read.binds) in
       let same : binding_of toks tree ≡ Ok u.bound = subst (λ (t : Node). binding_of toks t ≡ Ok u.bound) unit_tree binds in
       one_answer (binding_of toks tree) u.bound bound same old.binds
 
@@ -49,7 +50,7 @@ module _ (toks : List Token) (tree : Node) (bound : Bound) (old : ReadSo toks tr
       subst (λ (b : Bound). ReadSo (map (renamed c) u.text.toks) u.tree b) (sym unit_bound) on_tree in
       record {
         reads = subst (λ (s : Standard). read_of (grammar (dialect s)) (map (renamed c) u.text.toks) ≡ Ok u.tree) (sym is) so.reads;
-        binds = so.binds;
+        binds = subst (λ (s : Standard). binding_by s (map (renamed c) u.text.toks) u.tree ≡ Ok u.bound) (sym is) so.binds;
       }
 
 module _ (r : Row) (tree : Node) (bound : Bound) (old : ReadSo r.toks tree bound) (a : AnalysisValue) (h : IsOf r a) where
@@ -75,7 +76,7 @@ breaks r at name tree bound old never a h now ws kept =
     let each : Each (ReadsAlike c) (u ∷ []) = subst (Each (ReadsAlike c)) h.only (kept_meaning_reads_alike now ws a (member at) name kept) in
     let so : ReadSo (map (renamed c) u.text.toks) u.tree u.bound = record {
       reads = subst (λ (s : Standard). read_of (grammar (dialect s)) (map (renamed c) u.text.toks) ≡ Ok u.tree) h.standard each.0.reads;
-      binds = each.0.binds;
+      binds = subst (λ (s : Standard). binding_by s (map (renamed c) u.text.toks) u.tree ≡ Ok u.bound) h.standard each.0.binds;
     } in
     let on_bound : ReadSo (map (renamed c) u.text.toks) u.tree bound =
     subst (λ (b : Bound). ReadSo (map (renamed c) u.text.toks) u.tree b) (its_bound r tree bound old a h) so in

@@ -62,18 +62,3 @@ tabled_more toks numbers xs names linked structures found over ends ranks d rank
       ended = ended_more xs ends d a.ended;
       ranked = ranked_more xs ranks d rank a.ranked new;
     })
-
--- room changes nothing
-pub tabled_same : (toks : List Token) (numbers : List ℕ) (xs : List Declaration) (names linked structures found names' linked' structures' found' : Links) (over ends : List ℕ) (ranks : List Rank)
-    → IsTabled toks numbers xs names linked structures found over ends ranks → TellsSame names names' → TellsSame linked linked' → TellsSame structures structures' → TellsSame found found'
-    → IsTabled toks numbers xs names' linked' structures' found' over ends ranks
-tabled_same toks numbers xs names linked structures found names' linked' structures' found' over ends ranks a e f g h = record {
-  numbered = a.numbered;
-  named = chained_same (name_key_of numbers) xs names names' a.named e;
-  joined = chained_same (linkage_key_of numbers) xs linked linked' a.joined f;
-  passed = a.passed;
-  owned = chained_same member_key_of xs structures structures' a.owned g;
-  held = chained_same found_key_of xs found found' a.held h;
-  ended = a.ended;
-  ranked = a.ranked;
-}

@@ -1,8 +1,8 @@
 -- Declarations of a list that are pushed again as a body begins.
-use Rattle.std.proofs.Common.{ℕ, ◌+◌, ◌<◌, ◌≤◌, ◌≡◌, List, [], ◌++◌, length, take, reverse, Option, None, Some, refl, sym, ap, ◌∙◌, arith}
+use Rattle.std.proofs.Common.{ℕ, ◌+◌, ◌<◌, ◌≤◌, ◌≡◌, List, ◌++◌, length, take, reverse, Option, None, Some, refl, sym, ap, ◌∙◌, arith}
 use Rattle.std.specs.Prelude.{filter_map, slice_get}
 use Rattle.std.specs.Option.{option_and_then, option_to_list}
-use Rattle.std.proofs.lemmas.List.{append-nil, reverse-append, reverse-reverse, length-reverse, take_all}
+use Rattle.std.proofs.lemmas.List.{reverse-append, reverse-reverse, length-reverse, take_all}
 use Rattle.cs_base.specs.Token.{Token}
 use Rattle.c_types.specs.declared.declarations.Declaration.{Declaration}
 use Rattle.name_chains.specs.Chains.{Chains}
@@ -16,10 +16,6 @@ module _ (f : Declaration → Option Declaration) (ds : List Declaration) where
   -- so many of the first ones are asked, and those that are kept stand behind them all
   abbrev Kept : ℕ → List Declaration → Type 0
   Kept n es = reverse es ≡ reverse ds ++ filter_map f (take n (reverse ds))
-
-  -- none is kept before the place where the search begins
-  pub kept-none : (n : ℕ) → filter_map f (take n (reverse ds)) ≡ [] → Kept n ds
-  kept-none n none = sym (ap (λ ys. reverse ds ++ ys) none ∙ append-nil (reverse ds))
 
   -- one is asked
   pub kept-one : (n : ℕ) (o : Option Declaration) (es items new first : List Declaration) → reverse first ≡ ds → n < length first

@@ -1,9 +1,7 @@
 -- A search from the end of a list.
-use Rattle.std.proofs.Common.{ℕ, zero, suc, ◌+◌, ◌<◌, ◌≡◌, Bool, true, false, cond, ◌||◌, if◌then◌else◌, List, [], ◌∷◌, ◌++◌, reverse, take, length, Option, None, Some, refl, sym, ap, ◌∙◌, add-one, arith}
-use Rattle.std.specs.Prelude.{find, slice_get, is_some}
-use Rattle.std.specs.List.{list_any}
-use Rattle.std.specs.Option.{option_or, option_map}
-use Rattle.std.specs.Borrow.{Bor}
+use Rattle.std.proofs.Common.{ℕ, zero, suc, ◌+◌, ◌<◌, ◌≡◌, Bool, true, false, cond, if◌then◌else◌, List, [], ◌∷◌, ◌++◌, reverse, take, length, Option, None, Some, refl, sym, ap, ◌∙◌, add-one, arith}
+use Rattle.std.specs.Prelude.{find, slice_get}
+use Rattle.std.specs.Option.{option_or}
 use Rattle.std.proofs.lemmas.List.{reverse-append}
 use Rattle.c_types.specs.declared.declarations.Declaration.{Declaration}
 use Rattle.name_chains.specs.Latest.{tested}
@@ -39,20 +37,3 @@ pub find_step : (test : Declaration → Bool) (xs : List Declaration) (n : ℕ) 
 find_step test xs n l =
     let x = slice_get_some xs n l in
     ap (λ m. find test (reverse (take m xs))) (add-one n) ∙ find_last test xs n x.0 x.1
-
-any_step : (test : Declaration → Bool) (b : Bool) (x : Declaration) (fs : Option Declaration) (any : Bool) → is_some fs ≡ any → is_some (cond b (Some x) fs) ≡ (b || any)
-any_step test true x fs any e = refl
-any_step test false x fs any e = e
-
--- some element passes where one is found
-pub found_any : (test : Declaration → Bool) (xs : List Declaration) → is_some (find test xs) ≡ list_any test xs
-found_any test [] = refl
-found_any test (x ∷ xs) = any_step test (test x) x (find test xs) (list_any test xs) (found_any test xs)
-
-is_some_map : {A B : Type 0} (f : A → B) (o : Option A) → is_some (option_map f o) ≡ is_some o
-is_some_map f None = refl
-is_some_map f (Some x) = refl
-
-pub found_is_any : (test : Declaration → Bool) (o : Option (Bor Declaration)) (xs : List Declaration)
-    → option_map (λ (d : Bor Declaration). d.now) o ≡ find test xs → is_some o ≡ list_any test xs
-found_is_any test o xs e = sym (is_some_map (λ (d : Bor Declaration). d.now) o) ∙ (ap is_some e ∙ found_any test xs)

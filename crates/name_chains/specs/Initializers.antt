@@ -63,11 +63,11 @@ element_of t = if is_unknown t then unknown else (if is_array t then inner_of t 
 -- ---- Items
 
 -- An item without braces fills a part of such a place alone (paragraph 20), unless it has structure or union type,
--- or is a string for an array of characters (paragraphs 13 and 14).
+-- or is a string for an array of characters (paragraphs 13 and 14). So it may at a place of unknown type.
 abbrev pub is_part : CType → CType → Bool → Bool
 is_part place item text =
-    not (is_record item) &&
-    (if is_array place then not (text && is_arithmetic (inner_of place)) else is_record place)
+    is_unknown place ||
+    (not (is_record item) && (if is_array place then not (text && is_arithmetic (inner_of place)) else is_record place))
 
 -- an initializer without braces does so
 abbrev pub is_elision : Label → Forest → Frame → Bool

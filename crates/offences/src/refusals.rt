@@ -17,6 +17,8 @@ pub enum Refusal {
     NoName,
     /// The class of the part names no function.
     NotAFunction,
+    /// The class of the part names no macro.
+    NotAMacro,
     /// The numbers are not those from 1 to the number of the parameters, each once.
     BadOrder,
     /// The first offence: by path, then by character, then by number.

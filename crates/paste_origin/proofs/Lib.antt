@@ -1,2 +1,1 @@
-pub mod OriginLemmas
 pub mod StringLemmas

@@ -13,8 +13,8 @@ use Rattle.lexer.specs.Spelling.{is_identifier_text}
 use Rattle.line_shape.specs.Signs.{is_name}
 use Rattle.unit_steps.specs.Below.macro_expand.Renaming.{Renaming, renamed}
 use Rattle.unit_steps.specs.Below.macro_expand.Renaming as macros
-use Rattle.c_types.specs.declared.lists.Range.{Range}
-use Rattle.c_types.specs.Declarations.{spelling_at, alike}
+use Rattle.analysis.specs.Below.c_types.declared.lists.Range.{Range}
+use Rattle.analysis.specs.Below.c_types.Declarations.{spelling_at, alike}
 use Rattle.renamed_tree_laws.specs.Loose.{is_hidden, StaysWhole}
 use Rattle.analysis.specs.Analysed.{Analysed}
 use Rattle.analysis.specs.Analysis.{UnitAnalysis, AnalysisValue}
@@ -30,9 +30,9 @@ use Rattle.edited_unit_laws.proofs.ListLemmas.{In, cons_nil, flat_nil, any_at}
 use Rattle.rename_meaning.proofs.NoneLemmas.{NoneStand, none_stand, holder}
 use Rattle.rename_meaning.proofs.OccurringLemmas.{name_like, parted_one, like_spelled}
 use Rattle.edited_unit_laws.proofs.TracedLemmas.{AreChained}
-use Rattle.c99_grammar.specs.Dialects.{edition}
-use Rattle.c99_grammar.specs.Standard.{iso}
-use Rattle.c99_read.specs.State.{base_at, is_identifier}
+use Rattle.analysis.specs.Below.c99_grammar.Dialects.{edition}
+use Rattle.analysis.specs.Below.c99_grammar.Standard.{iso}
+use Rattle.analysis.specs.Below.c99_read.State.{base_at, is_identifier}
 use Rattle.rename_meaning.proofs.LinkedNameLemmas.{named_token}
 use Rattle.rename_meaning.proofs.NamedLemmas.{NameAt, OtherAt, alike_from, whole, old_identifier, old_at, new_at, look}
 use Rattle.rename_meaning.proofs.UnitTokenLemmas.{tokens_kept}

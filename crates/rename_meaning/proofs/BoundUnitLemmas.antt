@@ -6,14 +6,10 @@ use Rattle.cs_base.proofs.FileMapLemmas.{bytes_eq-equal}
 use Rattle.cs_base.specs.Token.{Token}
 use Rattle.line_shape.specs.Signs.{is_name}
 use Rattle.unit_steps.specs.Below.macro_expand.Renaming.{Renaming, renamed}
-use Rattle.c99_grammar.specs.Dialects.{edition}
-use Rattle.c99_grammar.specs.Standard.{iso}
-use Rattle.c99_read.specs.State.{base_at, is_identifier}
-use Rattle.scope_bind.specs.declared.bound.Name.{Name}
-use Rattle.c_types.specs.Declarations.{spelling_at, alike}
-use Rattle.scope_bind.specs.Names.{entity_at}
+use Rattle.analysis.specs.Below.scope_bind.declared.bound.Name.{Name}
+use Rattle.analysis.specs.Below.c_types.Declarations.{spelling_at, alike}
+use Rattle.analysis.specs.Below.scope_bind.Names.{entity_at}
 use Rattle.tree_laws.specs.RenamedNames.{StaysApart, NamesAreRenamed}
-use Rattle.tree_laws.proofs.HeldNames.{spelled_as_entities}
 use Rattle.tree_laws.proofs.RenamedWalk.{renamed_bind_alike}
 use Rattle.part_respell.specs.Respelled.{spelled}
 use Rattle.analysis.specs.Analysed.{Analysed}
@@ -22,14 +18,14 @@ use Rattle.rename_meaning.specs.Allowed.{IsAllowed}
 use Rattle.rename_meaning.specs.KeptTokens.{Spells}
 use Rattle.rename_meaning.specs.Renamings.{KeepsUnedited, renaming}
 use Rattle.rename_meaning.proofs.LinkLemmas.{linked_stay_alike}
-use Rattle.edited_unit_laws.proofs.ListLemmas.{In, all_of, all_at}
+use Rattle.edited_unit_laws.proofs.ListLemmas.{In, all_of}
 use Rattle.rename_meaning.proofs.RenamingLemmas.{renamings_spell}
 use Rattle.rename_meaning.proofs.UneditedLemmas.{renamings_keep_unedited}
 use Rattle.rename_meaning.specs.BoundUnits.{NamesBindAsBefore, UnitsAreRenamedWhole, UnitsBindAsBefore}
-use Rattle.rename_meaning.proofs.LinkedNameLemmas.{all_listed, all_said, all_pass, bound_name, IsFirst, first_bound, first_entity, joined, names_linked, named_token}
+use Rattle.rename_meaning.proofs.LinkedNameLemmas.{all_said, all_pass, bound_name, IsFirst, first_bound, first_entity, joined, names_linked}
 use Rattle.rename_meaning.proofs.NamedLemmas.{alike_from, each_spelled, old_at, new_at, words_kept, apart_kept, as_long}
-use Rattle.rename_meaning.proofs.ReadNameLemmas.{entities_named, names_identify}
-use Rattle.rename_meaning.proofs.ReadUnitLemmas.{IsReadSo, unit_read_so}
+use Rattle.rename_meaning.proofs.UnitNameLemmas.{name_token, name_entity, name_alike}
+use Rattle.edited_unit_laws.proofs.EditionLemmas.{read_by_edition, unit_is_read}
 
 module _ (a : Analysed) (members : List Part) (name : List ℕ) (r : Renaming) (h : IsAllowed a members name) (spells : Spells members name r)
     (keeps : KeepsUnedited r) (u : UnitAnalysis) (i : In u a.value.units) where
@@ -38,9 +34,6 @@ module _ (a : Analysed) (members : List Part) (name : List ℕ) (r : Renaming) (
 
   abbrev names : List Name
   names = u.bound.names
-
-  is_read : IsReadSo u
-  is_read = unit_read_so h.source h.workspace a.value h.accepted u i
 
   -- An identifier that is bound to an entity, and is spelled as the token that names it.
   record BoundAt (k e : ℕ) : Type 0 where
@@ -52,13 +45,9 @@ module _ (a : Analysed) (members : List Part) (name : List ℕ) (r : Renaming) (
 
   name_bound : (n : Name) → In n names → BoundAt n.index n.entity
   name_bound n j =
-      let is = is_read in
-      let one = all_at (λ (m : Name). (is_identifier (base_at (iso (edition u.standard)) toks m.index) ≡ true) × (is_identifier (base_at (iso (edition u.standard)) toks m.entity) ≡ true)) names
-      (all_listed _ names (names_identify (edition u.standard) toks u.tree u.bound is.reads is.binds)) n j in
-      let entity = all_at (λ (m : Name). (entity_at names m.index ≡ Some m.entity) × (entity_at names m.entity ≡ Some m.entity)) names
-      (all_listed _ names (entities_named (edition u.standard) toks u.tree u.bound is.reads is.binds)) n j in
-      let same = all_at (λ (m : Name). alike toks m.index m.entity ≡ true) names (all_listed _ names (spelled_as_entities toks u.tree u.bound is.binds)) n j in
-      let t = named_token (edition u.standard) toks n.index one.0 in
+      let entity = name_entity a members name h u i n j in
+      let same = name_alike a members name h u i n j in
+      let t = name_token a members name h u i n j in
       record {
         token = t.0;
         there = t.1;
@@ -93,10 +82,8 @@ module _ (a : Analysed) (members : List Part) (name : List ℕ) (r : Renaming) (
 
   pub name_together : (n : Name) → In n names → alike (map (renamed r) toks) n.index n.entity ≡ true
   name_together n j =
-      let is = is_read in
       let b = name_bound n j in
-      let entity = all_at (λ (m : Name). (entity_at names m.index ≡ Some m.entity) × (entity_at names m.entity ≡ Some m.entity)) names
-      (all_listed _ names (entities_named (edition u.standard) toks u.tree u.bound is.reads is.binds)) n j in
+      let entity = name_entity a members name h u i n j in
       let c = token_bound n.entity n.entity entity.1 in
       let f = first_bound names n.entity toks n.index b.token b.there b.entity in
       alike_from (spelling_at (map (renamed r) toks) n.index) (spelling_at (map (renamed r) toks) n.entity)
@@ -117,11 +104,11 @@ pub units_are_renamed_whole : UnitsAreRenamedWhole
 units_are_renamed_whole = λ a members name r h spells keeps u i. unit_renamed a members name r h spells keeps u i
 
 pub names_bind_as_before : NamesBindAsBefore
-names_bind_as_before = λ a members name r h spells keeps u i.
-    let is = unit_read_so h.source h.workspace a.value h.accepted u i in
+names_bind_as_before = λ a members name r h spells keeps u i iso_.
+    let is = read_by_edition u iso_ (unit_is_read h.source h.workspace a.value h.accepted u i) in
     renamed_bind_alike u.text.toks (map (renamed r) u.text.toks) u.tree u.bound is.binds (unit_renamed a members name r h spells keeps u i)
 
 pub units_bind_as_before : UnitsBindAsBefore
-units_bind_as_before = λ a members name h u i.
+units_bind_as_before = λ a members name h u i iso_.
     names_bind_as_before a members name (renaming a.value members name u.text) h (renamings_spell a.value members name u.text)
-    (renamings_keep_unedited a members name u.text h) u i
+    (renamings_keep_unedited a members name u.text h) u i iso_

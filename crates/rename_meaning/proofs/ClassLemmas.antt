@@ -6,8 +6,8 @@ use Rattle.std.specs.Option.{option_map_or}
 use Rattle.std.specs.Str.{bytes_eq}
 use Rattle.std.proofs.lemmas.Bool.{cases_Bool, both_ways, and_parts}
 use Rattle.std.proofs.lemmas.Option.{slice_get-map}
-use Rattle.c99_grammar.specs.declared.dialects.Edition.{Edition}
-use Rattle.c99_grammar.specs.declared.dialects.Edition.TheVariants.{C99, C11}
+use Rattle.analysis.specs.Below.c99_grammar.declared.dialects.Edition.{Edition}
+use Rattle.analysis.specs.Below.c99_grammar.declared.dialects.Edition.TheVariants.{C99, C11}
 use Rattle.cs_base.specs.declared.positions.Part.{Part}
 use Rattle.cs_base.specs.declared.tokens.Kind.{Kind}
 use Rattle.cs_base.specs.declared.tokens.Kind.TheVariants as kind
@@ -16,11 +16,11 @@ use Rattle.cs_base.specs.Token.{Token}
 use Rattle.line_shape.specs.Signs as signs
 use Rattle.unit_steps.specs.Below.macro_expand.Renaming.{Renaming, renamed}
 use Rattle.unit_steps.specs.Below.macro_expand.Renaming as macros
-use Rattle.c99_grammar.specs.Spellings.{Spelled, keywords_of}
-use Rattle.c99_grammar.specs.Dialects.{edition}
-use Rattle.c99_grammar.specs.Standard.{iso}
-use Rattle.c99_read.specs.State.{base_at}
-use Rattle.c99_grammar.specs.TokenClasses.{spelled_class, class_of_kind, base_class}
+use Rattle.analysis.specs.Below.c99_grammar.Spellings.{Spelled, keywords_of}
+use Rattle.analysis.specs.Below.c99_grammar.Dialects.{edition}
+use Rattle.analysis.specs.Below.c99_grammar.Standard.{iso}
+use Rattle.analysis.specs.Below.c99_read.State.{base_at}
+use Rattle.analysis.specs.Below.c99_grammar.TokenClasses.{spelled_class, class_of_kind, base_class}
 use Rattle.renamed_tree_laws.proofs.Private.{Class, identifier, no_class, end_class}
 use Rattle.analysis.specs.Analysed.{Analysed}
 use Rattle.analysis.specs.Analysis.{UnitAnalysis}

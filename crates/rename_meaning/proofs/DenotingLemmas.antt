@@ -9,15 +9,13 @@ use Rattle.cs_base.proofs.FileMapLemmas.{bytes_eq-equal, bytes_eq-same}
 use Rattle.cs_base.specs.declared.positions.Part.{Part}
 use Rattle.cs_base.specs.Token.{Token}
 use Rattle.cs_base.specs.Units.{UnitValue}
-use Rattle.c99_grammar.specs.Dialects.{edition}
 use Rattle.analysis.specs.Below.linkage_join.Linkage.{UnitValue as ExternalNames, names_of}
 use Rattle.unit_steps.specs.Below.macro_expand.Renaming.{Renaming, renamed}
 use Rattle.unit_steps.specs.Below.macro_expand.Renaming as macros
-use Rattle.c_types.specs.declared.entity.Linkage.TheVariants.{External}
-use Rattle.c_types.specs.Declarations.{spelling_at, alike, is_linkage}
-use Rattle.scope_bind.specs.declared.bound.Name.{Name}
-use Rattle.scope_bind.specs.Names.{entity_at, linkage_at}
-use Rattle.tree_laws.proofs.HeldNames.{spelled_as_entities}
+use Rattle.analysis.specs.Below.c_types.declared.entity.Linkage.TheVariants.{External}
+use Rattle.analysis.specs.Below.c_types.Declarations.{spelling_at, is_linkage}
+use Rattle.analysis.specs.Below.scope_bind.declared.bound.Name.{Name}
+use Rattle.analysis.specs.Below.scope_bind.Names.{entity_at, linkage_at}
 use Rattle.edited_unit_laws.specs.Analyses.{renamed_unit_analysis, renamed_analysis}
 use Rattle.analysis.specs.Changed.{ExternalName, external_name, external_if, external_at, is_one_entity, denote_one}
 use Rattle.analysis.specs.Analysed.{Analysed}
@@ -27,17 +25,16 @@ use Rattle.analysis.proofs.NamingLemmas.{in_filter}
 use Rattle.rename_meaning.specs.Allowed.{IsAllowed}
 use Rattle.rename_meaning.specs.KeptTokens.{Spells}
 use Rattle.rename_meaning.specs.Renamings.{KeepsUnedited}
-use Rattle.edited_unit_laws.proofs.ListLemmas.{In, all_at, in_flat}
+use Rattle.edited_unit_laws.proofs.ListLemmas.{In, in_flat}
 use Rattle.rename_meaning.proofs.RenamingLemmas.{spell-same}
 use Rattle.rename_meaning.proofs.UneditedLemmas.{renamings_keep_unedited}
 use Rattle.rename_meaning.specs.KeptUnits.{change}
 use Rattle.rename_meaning.specs.KeptLinks.{RenamedNamesDenoteAlike}
 use Rattle.rename_meaning.proofs.BoundUnitLemmas.{name_together}
 use Rattle.rename_meaning.proofs.ExternalNameLemmas.{alike_both}
-use Rattle.rename_meaning.proofs.LinkedNameLemmas.{all_listed, bound_name, bound_to}
+use Rattle.rename_meaning.proofs.LinkedNameLemmas.{bound_name, bound_to}
 use Rattle.rename_meaning.proofs.LinksKeptLemmas.{with_first, apart, bound_token, spelled_there, projects_together, units}
-use Rattle.rename_meaning.proofs.ReadNameLemmas.{entities_named}
-use Rattle.rename_meaning.proofs.ReadUnitLemmas.{unit_read_so}
+use Rattle.rename_meaning.proofs.UnitNameLemmas.{name_entity, name_alike}
 
 -- ---- external names of units and of projects
 
@@ -192,11 +189,8 @@ module _ (a : Analysed) (members : List Part) (name : List ℕ) (h : IsAllowed a
 
     name_has_entity : (n : Name) → In n u.bound.names → HasEntity n.index n.entity
     name_has_entity n j =
-        let is = unit_read_so h.source h.workspace a.value h.accepted u i in
-        let entity = all_at (λ (m : Name). (entity_at u.bound.names m.index ≡ Some m.entity) × (entity_at u.bound.names m.entity ≡ Some m.entity)) u.bound.names
-        (all_listed _ u.bound.names (entities_named (edition u.standard) u.text.toks u.tree u.bound is.reads is.binds)) n j in
-        let same = all_at (λ (m : Name). alike u.text.toks m.index m.entity ≡ true) u.bound.names
-        (all_listed _ u.bound.names (spelled_as_entities u.text.toks u.tree u.bound is.binds)) n j in
+        let entity = name_entity a members name h u i n j in
+        let same = name_alike a members name h u i n j in
         record {
           own = entity.1;
           old = bytes_eq-equal (spelling_at u.text.toks n.index) (spelling_at u.text.toks n.entity) same;

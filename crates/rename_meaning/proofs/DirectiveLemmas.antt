@@ -2,9 +2,10 @@
 use Rattle.std.proofs.Common.{◌≡◌, ℕ, zero, suc, ◌+◌, ◌-◌, ◌<◌, ◌≤◌, ◌&&◌, ◌||◌, Bool, true, false, cond, List, [], ◌∷◌, ◌++◌, length, take, drop, map, get_or, Option, Some, None, inl, inr, refl, sym, ap, subst, ◌∙◌, arith, append_assoc, append-nil}
 use Rattle.std.specs.Prelude.{◌⊎◌, slice_get, slice_range}
 use Rattle.std.specs.List.{flat_map}
+use Rattle.std.specs.Option.{option_map_or}
 use Rattle.std.specs.Str.{bytes_eq}
 use Rattle.std.proofs.Math.Seq.{take-append_seam, drop-append_seam}
-use Rattle.std.proofs.lemmas.Bool.{cases_Bool, both_ways, or_parts}
+use Rattle.std.proofs.lemmas.Bool.{cases_Bool, both_ways, or_parts, false≢true}
 use Rattle.std.proofs.lemmas.Option.{same_Some}
 use Rattle.cs_base.specs.declared.causes.Cause.{Cause}
 use Rattle.cs_base.specs.declared.positions.Pos.{Pos}
@@ -16,13 +17,15 @@ use Rattle.lexer.proofs.OrderLemmas.{tokens_of-in_order}
 use Rattle.line_shape.specs.declared.items.Item.{Item}
 use Rattle.line_shape.specs.declared.items.ItemKind.{ItemKind}
 use Rattle.line_shape.specs.declared.items.ItemKind.TheVariants as kind
+use Rattle.line_shape.specs.declared.items.GnuLine.TheVariants as gnu
 use Rattle.line_shape.specs.Directives.{directives, meaning_in, directive_spelled, directive_named, is_run}
 use Rattle.line_shape.specs.Items.{onto_lines, lines_of, kind_unless, named_kind, directive_kind, line_kind, Piece, piece, onto_pieces, pieces_of, item_of, items_from, items_of}
 use Rattle.line_shape.specs.BadLines.{cause_on}
 use Rattle.line_shape.specs.Signs.{is_name, is_hash}
-use Rattle.source_files.specs.HeaderNames.{is_header}
+use Rattle.source_files.specs.HeaderNames.{is_header, begins_header}
 use Rattle.include_tree.specs.Walk.{ItemText, item_text, item_texts}
 use Rattle.unit_laws.specs.UnitItems.{expanded_name, taken}
+use Rattle.edited_unit_laws.specs.Lines.{is_pragma, is_next, stands_behind}
 use Rattle.edited_unit_laws.proofs.ListLemmas.{In, AllOf}
 
 -- ---- lists
@@ -73,14 +76,18 @@ lines-together [] firsts = refl
 lines-together (t ∷ toks) firsts =
     onto-together t (get_or firsts 1 false) (lines_of toks (drop 1 firsts)) ∙ ap (λ (ts : List Token). t ∷ ts) (lines-together toks (drop 1 firsts))
 
--- the word of a line, and what a unit may take of it
+-- the word of a line with what is read behind it as it stands, and what a unit may take of the line
 abbrev pub word_of : List Token → List Token
-word_of (hash ∷ word ∷ operands) = cond (is_hash hash) (word ∷ []) []
+word_of (hash ∷ word ∷ operands) = cond (is_hash hash) (word ∷ cond (stands_behind word operands) operands []) []
 word_of _ = []
+
+abbrev pub open_behind : List Token → List Token
+open_behind [] = []
+open_behind (word ∷ operands) = cond (stands_behind word operands) [] operands
 
 abbrev pub open_part : List Token → List Token
 open_part [] = []
-open_part (t ∷ toks) = cond (is_hash t) (drop 1 toks) (t ∷ toks)
+open_part (t ∷ toks) = cond (is_hash t) (open_behind toks) (t ∷ toks)
 
 -- ---- order
 
@@ -111,40 +118,80 @@ split_order from to (x ∷ xs) ys order =
     let b = r.3 in
     (r.0, (a, order.1, b, r.1), r.2, omega arith)
 
+-- what is taken of a line, by whether it is one of a directive, and whether what stands behind its word is read as it stands
+word_alone : (hash word : Bool) (first w : Token) (toks : List Token) → hash ≡ true → word ≡ false → In w (cond hash (first ∷ cond word toks []) [])
+    → In w (first ∷ [])
+word_alone true false first w toks is open_ i = i
+word_alone true true first w toks is open_ i = absurd (false≢true (sym open_))
+word_alone false word first w toks is open_ i = absurd (false≢true is)
+
+behind_open : (hash word : Bool) (t : Token) (toks all : List Token) → hash ≡ true → word ≡ false → In t (cond hash (cond word [] toks) all) → In t toks
+behind_open true false t toks all is open_ i = i
+behind_open true true t toks all is open_ i = absurd (false≢true (sym open_))
+behind_open false word t toks all is open_ i = absurd (false≢true is)
+
+behind_none : (hash word : Bool) (t : Token) (toks all : List Token) → hash ≡ true → word ≡ true → In t (cond hash (cond word [] toks) all) → ⊥
+behind_none true true t toks all is stands i = none_in t i
+behind_none true false t toks all is stands i = absurd (false≢true stands)
+behind_none false word t toks all is stands i = absurd (false≢true is)
+
+behind_word : (hash word : Bool) (first t : Token) (toks : List Token) → hash ≡ true → word ≡ true → In t toks → In t (cond hash (first ∷ cond word toks []) [])
+behind_word true true first t toks is stands i = in_more t first toks i
+behind_word true false first t toks is stands i = absurd (false≢true stands)
+behind_word false word first t toks is stands i = absurd (false≢true is)
+
 -- a word stands before what stands behind it
 word_apart : (from to : ℕ) (line : List Token) (w t : Token) → InOrder from to line → In w (word_of line) → In t (open_part line) → w.at.at ≡ t.at.at → ⊥
 word_apart from to [] w t order i j same = none_in w i
 word_apart from to (hash ∷ []) w t order i j same = none_in w i
 word_apart from to (hash ∷ word ∷ operands) w t order i j same = elim (cases_Bool (is_hash hash)) [
-  | inl is ↦
-      let here : In w (word ∷ []) = rw is at i in
-      let there : In t operands = rw is at j in
-      elim (first_or w word [] here) [
-        | inl e ↦
-            let at : word.at.at ≡ w.at.at = ap (λ (u : Token). u.at.at) e in
-            let k = order_between (word.at.at + length word.text) to operands order.3.3 t there in
-            let far = k.0 in
-            let some = order.3.1 in
-            omega arith
-        | inr none ↦ none_in w none
-      ]
+  | inl is ↦ elim (cases_Bool (stands_behind word operands)) [
+    | inl stands ↦ behind_none (is_hash hash) (stands_behind word operands) t operands (hash ∷ word ∷ operands) is stands j
+    | inr open_ ↦
+        let here = word_alone (is_hash hash) (stands_behind word operands) word w operands is open_ i in
+        let there = behind_open (is_hash hash) (stands_behind word operands) t operands (hash ∷ word ∷ operands) is open_ j in
+        elim (first_or w word [] here) [
+          | inl e ↦
+              let at : word.at.at ≡ w.at.at = ap (λ (u : Token). u.at.at) e in
+              let k = order_between (word.at.at + length word.text) to operands order.3.3 t there in
+              let far = k.0 in
+              let some = order.3.1 in
+              omega arith
+          | inr none ↦ none_in w none
+        ]
+  ]
   | inr is_not ↦ let here : In w [] = rw is_not at i in none_in w here
 ]
+
+in_cond : (w : Token) (b : Bool) (toks : List Token) → In w (cond b toks []) → In w toks
+in_cond w true toks i = i
+in_cond w false toks i = absurd (none_in w i)
+
+in_other : (w : Token) (b : Bool) (toks : List Token) → In w (cond b [] toks) → In w toks
+in_other w true toks i = absurd (none_in w i)
+in_other w false toks i = i
+
+in_behind : (t : Token) (toks : List Token) → In t (open_behind toks) → In t toks
+in_behind t [] i = i
+in_behind t (word ∷ operands) i = in_more t word operands (in_other t (stands_behind word operands) operands i)
 
 in_word : (line : List Token) (w : Token) → In w (word_of line) → In w line
 in_word [] w i = i
 in_word (hash ∷ []) w i = absurd (none_in w i)
 in_word (hash ∷ word ∷ operands) w i = elim (cases_Bool (is_hash hash)) [
   | inl is ↦
-      let here : In w (word ∷ []) = rw is at i in
-      elim (first_or w word [] here) [ inl e ↦ (1, ap (λ (u : Token). Some u) e) | inr none ↦ absurd (none_in w none) ]
+      let here : In w (word ∷ cond (stands_behind word operands) operands []) = rw is at i in
+      elim (first_or w word (cond (stands_behind word operands) operands []) here) [
+        | inl e ↦ (1, ap (λ (u : Token). Some u) e)
+        | inr later ↦ in_more w hash (word ∷ operands) (in_more w word operands (in_cond w (stands_behind word operands) operands later))
+      ]
   | inr is_not ↦ let here : In w [] = rw is_not at i in absurd (none_in w here)
 ]
 
 pub in_open : (line : List Token) (t : Token) → In t (open_part line) → In t line
 in_open [] t i = i
 in_open (x ∷ toks) t i = elim (cases_Bool (is_hash x)) [
-  | inl is ↦ let here : In t (drop 1 toks) = rw is at i in in_more t x toks (in_drop t 1 toks here)
+  | inl is ↦ let here : In t (open_behind toks) = rw is at i in in_more t x toks (in_behind t toks here)
   | inr is_not ↦ rw is_not at i
 ]
 
@@ -242,17 +289,97 @@ run_open (t ∷ toks) h = elim (cases_Bool (is_hash t)) [
   | inr is_not ↦ rw is_not refl
 ]
 
--- one that is none begins so
-open_directive : (line : List Token) → is_run (line_kind line) ≡ false → open_part line ≡ drop 2 line
-open_directive [] h = refl
-open_directive (t ∷ toks) h = elim (cases_Bool (is_hash t)) [
-  | inl is ↦ rw is (by toks)
+-- ---- what is taken
+
+in_expanded : (t : Token) (toks : List Token) → In t (expanded_name toks) → In t toks
+in_expanded t [] i = i
+in_expanded t (x ∷ toks) i = by (is_header x.kind) i
+  where
+    by : (b : Bool) → In t (cond b [] (x ∷ toks)) → In t (x ∷ toks)
+    by true j = absurd (none_in t j)
+    by false j = j
+
+-- all of a run, and of a directive what stands behind its word
+pub taken_from : (k : ItemKind) (evaluated : Bool) (toks : List Token) (t : Token) → In t (taken k evaluated toks)
+    → ((is_run k ≡ true) × In t toks) ⊎ ((is_run k ≡ false) × In t (drop 2 toks))
+taken_from kind.Run evaluated toks t i = inl (refl, i)
+taken_from kind.Define evaluated toks t i = inr (refl, i)
+taken_from kind.Undef evaluated toks t i = inr (refl, in_take t 1 (drop 2 toks) i.0 i.1)
+taken_from kind.Ifdef evaluated toks t i = inr (refl, in_take t 1 (drop 2 toks) i.0 i.1)
+taken_from kind.Ifndef evaluated toks t i = inr (refl, in_take t 1 (drop 2 toks) i.0 i.1)
+taken_from kind.If true toks t i = inr (refl, i)
+taken_from kind.If false toks t i = absurd (none_in t i)
+taken_from kind.Elif true toks t i = inr (refl, i)
+taken_from kind.Elif false toks t i = absurd (none_in t i)
+taken_from kind.Include evaluated toks t i = inr (refl, in_expanded t (drop 2 toks) i)
+taken_from kind.Else evaluated toks t i = absurd (none_in t i)
+taken_from kind.Endif evaluated toks t i = absurd (none_in t i)
+taken_from kind.Line evaluated toks t i = absurd (none_in t i)
+taken_from kind.Error evaluated toks t i = absurd (none_in t i)
+taken_from kind.Pragma evaluated toks t i = absurd (none_in t i)
+taken_from kind.Empty evaluated toks t i = absurd (none_in t i)
+taken_from (kind.Bad cause at nests) evaluated toks t i = absurd (none_in t i)
+taken_from (kind.Gnu gnu.IncludeNext) evaluated toks t i = inr (refl, in_other t (begins_header (drop 2 toks)) (drop 2 toks) i)
+taken_from (kind.Gnu gnu.Message) evaluated toks t i = absurd (none_in t i)
+taken_from (kind.Gnu gnu.Elifdef) true toks t i = inr (refl, in_take t 1 (drop 2 toks) i.0 i.1)
+taken_from (kind.Gnu gnu.Elifdef) false toks t i = absurd (none_in t i)
+taken_from (kind.Gnu gnu.Elifndef) true toks t i = inr (refl, in_take t 1 (drop 2 toks) i.0 i.1)
+taken_from (kind.Gnu gnu.Elifndef) false toks t i = absurd (none_in t i)
+
+-- what is read as it stands is not taken
+taken_stands : (k : ItemKind) (evaluated : Bool) (hash word : Token) (operands : List Token) (t : Token)
+    → (is_pragma k || (is_next k && begins_header operands)) ≡ true → In t (taken k evaluated (hash ∷ word ∷ operands)) → ⊥
+taken_stands kind.Pragma evaluated hash word operands t h i = none_in t i
+taken_stands (kind.Gnu gnu.IncludeNext) evaluated hash word operands t h i = let none : In t [] = rw h at i in none_in t none
+taken_stands (kind.Gnu gnu.Message) evaluated hash word operands t h i = none_in t i
+taken_stands (kind.Gnu gnu.Elifdef) evaluated hash word operands t h i = let wrong : false ≡ true = h in absurd (cc)
+taken_stands (kind.Gnu gnu.Elifndef) evaluated hash word operands t h i = let wrong : false ≡ true = h in absurd (cc)
+taken_stands kind.Run evaluated hash word operands t h i = let wrong : false ≡ true = h in absurd (cc)
+taken_stands kind.Define evaluated hash word operands t h i = let wrong : false ≡ true = h in absurd (cc)
+taken_stands kind.Undef evaluated hash word operands t h i = let wrong : false ≡ true = h in absurd (cc)
+taken_stands kind.If evaluated hash word operands t h i = let wrong : false ≡ true = h in absurd (cc)
+taken_stands kind.Ifdef evaluated hash word operands t h i = let wrong : false ≡ true = h in absurd (cc)
+taken_stands kind.Ifndef evaluated hash word operands t h i = let wrong : false ≡ true = h in absurd (cc)
+taken_stands kind.Elif evaluated hash word operands t h i = let wrong : false ≡ true = h in absurd (cc)
+taken_stands kind.Include evaluated hash word operands t h i = let wrong : false ≡ true = h in absurd (cc)
+taken_stands kind.Else evaluated hash word operands t h i = none_in t i
+taken_stands kind.Endif evaluated hash word operands t h i = none_in t i
+taken_stands kind.Line evaluated hash word operands t h i = none_in t i
+taken_stands kind.Error evaluated hash word operands t h i = none_in t i
+taken_stands kind.Empty evaluated hash word operands t h i = none_in t i
+taken_stands (kind.Bad cause at nests) evaluated hash word operands t h i = none_in t i
+
+unless_stands : (c : Option Cause) (k : ItemKind) (at : Pos) (evaluated : Bool) (hash word : Token) (operands : List Token) (t : Token)
+    → (is_pragma k || (is_next k && begins_header operands)) ≡ true → In t (taken (kind_unless c at k) evaluated (hash ∷ word ∷ operands)) → ⊥
+unless_stands None k at evaluated hash word operands t h i = taken_stands k evaluated hash word operands t h i
+unless_stands (Some cause) k at evaluated hash word operands t h i = none_in t i
+
+named_stands : (o : Option ItemKind) (at : Pos) (evaluated : Bool) (hash word : Token) (operands : List Token) (t : Token)
+    → (option_map_or is_pragma o false || (option_map_or is_next o false && begins_header operands)) ≡ true
+    → In t (taken (named_kind o at operands) evaluated (hash ∷ word ∷ operands)) → ⊥
+named_stands None at evaluated hash word operands t h i = none_in t i
+named_stands (Some k) at evaluated hash word operands t h i = unless_stands (cause_on k operands) k at evaluated hash word operands t h i
+
+-- what is taken from a line that is none stands where something may be taken
+behind_taken : (hash : Token) (ts : List Token) (evaluated : Bool) (t : Token) → In t (taken (directive_kind hash.at ts) evaluated (hash ∷ ts)) → In t (open_behind ts)
+unfolding directive_kind
+behind_taken hash [] evaluated t i = absurd (none_in t i)
+behind_taken hash (word ∷ operands) evaluated t i = elim (cases_Bool (stands_behind word operands)) [
+  | inl stands ↦ absurd (named_stands (directive_named word) hash.at evaluated hash word operands t stands i)
+  | inr open_ ↦
+      let from : In t operands = elim (taken_from (named_kind (directive_named word) hash.at operands) evaluated (hash ∷ word ∷ operands) t i) [
+        | inl run ↦ absurd (both_ways (is_run (named_kind (directive_named word) hash.at operands)) (kind_runs (directive_named word) hash.at operands (named_runs word)) run.0)
+        | inr directive ↦ directive.1
+      ] in
+      rw open_ from
+]
+
+open_taken : (line : List Token) (evaluated : Bool) (t : Token) → is_run (line_kind line) ≡ false → In t (taken (line_kind line) evaluated line) → In t (open_part line)
+open_taken [] evaluated t h i = absurd (none_in t i)
+open_taken (hash ∷ toks) evaluated t h i = elim (cases_Bool (is_hash hash)) [
+  | inl is ↦ rw is (behind_taken hash toks evaluated t (rw is at i))
   | inr is_not ↦ let run : true ≡ false = rw is_not at h in absurd (cc)
 ]
-  where
-    by : (ts : List Token) → drop 1 ts ≡ drop 2 (t ∷ ts)
-    by [] = refl
-    by (x ∷ ts) = refl
 
 -- the token stands where something may be taken from a line of these
 abbrev OpenIn : List (List Token) → Token → Type 0
@@ -264,12 +391,12 @@ open_later l lines t h = (h.0, in_more h.0 l lines h.1, h.2)
 -- What is known of a piece: a run is of text lines, and anything else is one directive line.
 pub record FromLines (lines : List (List Token)) (p : Piece) : Type 0 where
   pub run : is_run p.kind ≡ true → (t : Token) → In t p.toks → OpenIn lines t
-  pub line : is_run p.kind ≡ false → (t : Token) → In t (drop 2 p.toks) → OpenIn lines t
+  pub line : is_run p.kind ≡ false → (evaluated : Bool) (t : Token) → In t (taken p.kind evaluated p.toks) → OpenIn lines t
 
 from_later : (l : List Token) (lines : List (List Token)) (p : Piece) → FromLines lines p → FromLines (l ∷ lines) p
 from_later l lines p h = record {
   run = λ run t i. open_later l lines t (h.run run t i);
-  line = λ other t i. open_later l lines t (h.line other t i);
+  line = λ other evaluated t i. open_later l lines t (h.line other evaluated t i);
 }
 
 all_later : (l : List Token) (lines : List (List Token)) (ps : List Piece) → AllOf (FromLines lines) ps → AllOf (FromLines (l ∷ lines)) ps
@@ -279,7 +406,7 @@ all_later l lines (p ∷ ps) h = (from_later l lines p h.0, all_later l lines ps
 from_first : (l : List Token) (lines : List (List Token)) → FromLines (l ∷ lines) (piece (line_kind l) l)
 from_first l lines = record {
   run = λ run t i. (l, (0, refl), subst (λ (ts : List Token). In t ts) (sym (run_open l run)) i);
-  line = λ other t i. (l, (0, refl), subst (λ (ts : List Token). In t ts) (sym (open_directive l other)) i);
+  line = λ other evaluated t i. (l, (0, refl), open_taken l evaluated t other i);
 }
 
 from_onto : (l : List Token) (lines : List (List Token)) (ps : List Piece) → AllOf (FromLines lines) ps
@@ -293,7 +420,7 @@ from_onto l lines (next ∷ ps) h = elim (cases_Bool (is_run (line_kind l))) [
             | inl front ↦ (from_first l lines).run run t front
             | inr back ↦ (from_later l lines next h.0).run also t back
           ];
-          line = λ other t i. absurd (let no : true ≡ false = other in cc);
+          line = λ other evaluated t i. absurd (let no : true ≡ false = other in cc);
         } in
         rw (run, also) (joined, all_later l lines ps h.1)
     | inr other ↦ rw (run, other) (from_first l lines, (from_later l lines next h.0, all_later l lines ps h.1))
@@ -379,36 +506,11 @@ texts_from toks from (p ∷ ps) rest e i there =
     text_by toks from p ps rest i (e ∙ append_assoc p.toks (all_toks ps) rest)
     (λ next behind. texts_from toks (from + length p.toks) ps rest next i behind) p.toks refl there
 
--- ---- what is taken
-
-in_expanded : (t : Token) (toks : List Token) → In t (expanded_name toks) → In t toks
-in_expanded t [] i = i
-in_expanded t (x ∷ toks) i = by (is_header x.kind) i
-  where
-    by : (b : Bool) → In t (cond b [] (x ∷ toks)) → In t (x ∷ toks)
-    by true j = absurd (none_in t j)
-    by false j = j
-
--- all of a run, and of a directive what stands behind its word
-pub taken_from : (k : ItemKind) (evaluated : Bool) (toks : List Token) (t : Token) → In t (taken k evaluated toks)
-    → ((is_run k ≡ true) × In t toks) ⊎ ((is_run k ≡ false) × In t (drop 2 toks))
-taken_from kind.Run evaluated toks t i = inl (refl, i)
-taken_from kind.Define evaluated toks t i = inr (refl, i)
-taken_from kind.Undef evaluated toks t i = inr (refl, in_take t 1 (drop 2 toks) i.0 i.1)
-taken_from kind.Ifdef evaluated toks t i = inr (refl, in_take t 1 (drop 2 toks) i.0 i.1)
-taken_from kind.Ifndef evaluated toks t i = inr (refl, in_take t 1 (drop 2 toks) i.0 i.1)
-taken_from kind.If true toks t i = inr (refl, i)
-taken_from kind.If false toks t i = absurd (none_in t i)
-taken_from kind.Elif true toks t i = inr (refl, i)
-taken_from kind.Elif false toks t i = absurd (none_in t i)
-taken_from kind.Include evaluated toks t i = inr (refl, in_expanded t (drop 2 toks) i)
-taken_from kind.Else evaluated toks t i = absurd (none_in t i)
-taken_from kind.Endif evaluated toks t i = absurd (none_in t i)
-taken_from kind.Line evaluated toks t i = absurd (none_in t i)
-taken_from kind.Error evaluated toks t i = absurd (none_in t i)
-taken_from kind.Pragma evaluated toks t i = absurd (none_in t i)
-taken_from kind.Empty evaluated toks t i = absurd (none_in t i)
-taken_from (kind.Bad cause at nests) evaluated toks t i = absurd (none_in t i)
+run_taken : (k : ItemKind) (evaluated : Bool) (toks : List Token) (t : Token) → is_run k ≡ true → In t (taken k evaluated toks) → In t toks
+run_taken k evaluated toks t run i = elim (taken_from k evaluated toks t i) [
+  | inl is ↦ is.1
+  | inr directive ↦ absurd (both_ways (is_run k) directive.0 run)
+]
 
 piece_at : (lines : List (List Token)) (ps : List Piece) → AllOf (FromLines lines) ps → (p : Piece) → In p ps → FromLines lines p
 piece_at lines [] h p i = absurd (none_in p i)
@@ -427,12 +529,11 @@ taken_open toks firsts i evaluated t there taken_t =
     let whole : drop 0 toks ≡ all_toks ps ++ [] = sym (lines-together toks firsts) ∙ sym (pieces-toks lines) ∙ sym (append-nil (all_toks ps)) in
     let is = texts_from toks 0 ps [] whole i there in
     let from = piece_at lines ps (pieces_from lines) is.own is.among in
-    let P : ItemKind → List Token → Type 0 = λ k ts. ((is_run k ≡ true) × In t ts) ⊎ ((is_run k ≡ false) × In t (drop 2 ts)) in
-    let which : P i.kind i.toks = taken_from i.kind evaluated i.toks t taken_t in
-    let own : P is.own.kind is.own.toks = subst (λ (ts : List Token). P is.own.kind ts) is.toks (subst (λ (k : ItemKind). P k i.toks) is.kind which) in
-    elim own [
-      | inl run ↦ from.run run.0 t run.1
-      | inr directive ↦ from.line directive.0 t directive.1
+    let P : ItemKind → List Token → Type 0 = λ k ts. In t (taken k evaluated ts) in
+    let own : P is.own.kind is.own.toks = subst (λ (ts : List Token). P is.own.kind ts) is.toks (subst (λ (k : ItemKind). P k i.toks) is.kind taken_t) in
+    elim (cases_Bool (is_run is.own.kind)) [
+      | inl run ↦ from.run run t (run_taken is.own.kind evaluated is.own.toks t run own)
+      | inr directive ↦ from.line directive evaluated t own
     ]
 
 -- The word of a directive line stands nowhere where a unit takes something from an item of the file.
@@ -462,3 +563,7 @@ word_listed toks firsts line w i j =
 
 pub word_first : (hash word : Token) (operands : List Token) → is_hash hash ≡ true → In word (word_of (hash ∷ word ∷ operands))
 word_first hash word operands is = rw is (0, refl)
+
+pub word_later : (hash word : Token) (operands : List Token) (t : Token) → is_hash hash ≡ true → stands_behind word operands ≡ true → In t operands
+    → In t (word_of (hash ∷ word ∷ operands))
+word_later hash word operands t is stands i = behind_word (is_hash hash) (stands_behind word operands) word t operands is stands i

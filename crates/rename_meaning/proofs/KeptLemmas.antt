@@ -205,7 +205,7 @@ module _ (members : List Part) (put : Put) where
   words_stay [] stay free = tt
   words_stay ([] ∷ lines) stay free = (tt, words_stay lines stay.1 free.1)
   words_stay ((hash ∷ []) ∷ lines) stay free = (tt, words_stay lines stay.1 free.1)
-  words_stay ((hash ∷ word ∷ operands) ∷ lines) stay free = (λ is. (let s = stay.0.1.0 in s) (free.0 is), words_stay lines stay.1 free.1)
+  words_stay ((hash ∷ word ∷ operands) ∷ lines) stay free = (λ is. (let s = stay.0.1.0 in s) (free.0 is).0, words_stay lines stay.1 free.1)
 
 pub files_keep_pieces : FilesKeepPieces
 files_keep_pieces = λ a members name h words n f is.

@@ -1,7 +1,8 @@
 -- Each line of a kept file is kept.
-use Rattle.std.proofs.Common.{◌≡◌, ℕ, false, cond, List, [], ◌∷◌, drop, None, inl, inr, sym, ap, ◌∙◌}
+use Rattle.std.proofs.Common.{◌≡◌, ◌&&◌, ◌||◌, ℕ, Bool, true, false, cond, List, [], ◌∷◌, drop, None, inl, inr, refl, sym, ap, ◌∙◌}
+use Rattle.std.specs.Prelude.{◌⊎◌}
 use Rattle.std.specs.Str.{bytes_eq}
-use Rattle.std.proofs.lemmas.Bool.{cases_Bool, both_ways, false_from_ne_true}
+use Rattle.std.proofs.lemmas.Bool.{cases_Bool, both_ways, false_from_ne_true, and_from}
 use Rattle.cs_base.proofs.FileMapLemmas.{bytes_eq-equal, bytes_eq-same}
 use Rattle.cs_base.specs.declared.positions.Part.{Part}
 use Rattle.cs_base.specs.Token.{Token}
@@ -14,7 +15,9 @@ use Rattle.unit_steps.specs.Below.macro_expand.Renaming.{Renaming, renamed}
 use Rattle.unit_steps.specs.Below.macro_expand.Renaming as macros
 use Rattle.part_respell.specs.Respelled.{spelled}
 use Rattle.offences.specs.Tokens.{holds_member}
-use Rattle.edited_unit_laws.specs.Lines.{Each, KeepsLine, KeepsParameters, NamesAsBefore, parameters_of}
+use Rattle.source_files.specs.HeaderNames.{begins_header}
+use Rattle.edited_unit_laws.specs.Lines.{Each, KeepsLine, KeepsParameters, NamesAsBefore, parameters_of, asks_next, begins_pragma}
+use Rattle.edited_unit_laws.proofs.StandingLemmas.{header_at-same, once-same}
 use Rattle.analysis.specs.Analysed.{Analysed}
 use Rattle.rename_meaning.specs.Allowed.{IsAllowed}
 use Rattle.rename_meaning.specs.KeptFiles.{WordIsFree}
@@ -52,6 +55,12 @@ names_each P (t ∷ ts) h = elim (cases_Bool (is_name t)) [
   | inl named ↦ rw named (h.0, names_each P ts h.1)
   | inr other ↦ rw other (names_each P ts h.1)
 ]
+
+-- one of two tests passes
+either_true : (a b : Bool) → (a ≡ true) ⊎ (b ≡ true) → (a || b) ≡ true
+either_true true b h = refl
+either_true false b (inl h) = absurd (cc)
+either_true false b (inr h) = h
 
 -- facts of pairs, from what is known of each, and of those spelled alike
 each_both : (P Q R : Token → Type 0) (ts : List Token) → Each P ts → Each Q ts → ((t : Token) → P t → Q t → R t) → Each R ts
@@ -97,12 +106,19 @@ module _ (a : Analysed) (members : List Part) (name : List ℕ) (r : Renaming) (
   word_named word told free =
       ap (λ (w : List ℕ). cond (is_name word) (directive_spelled w) None) (free_same a members name r h spells word (parted_of a.value members word told) free)
 
+  -- what holds no member stays
+  operands_stay : (operands : List Token) → AllOf Told operands → Each (λ t. holds_member members t ≡ false) operands → Each (λ t. macros.spelled r t ≡ t.text) operands
+  operands_stay [] told free = tt
+  operands_stay (t ∷ operands) told free = (free_same a members name r h spells t (parted_of a.value members t told.0) free.0, operands_stay operands told.1 free.1)
+
   line_kept : (line : List Token) → AllOf Told line → WordIsFree members line → LineStaysAlike members name line → KeepsLine r line
   line_kept [] told free alike = tt
   line_kept (hash ∷ []) told free alike = tt
   line_kept (hash ∷ word ∷ operands) told free alike = λ is. (
-    word_named word told.1.0 (free is),
+    word_named word told.1.0 (free is).0,
     λ define. parameters_kept (drop 1 operands) (drop_each Told operands (to_each Told operands told.1.1)) (alike is define),
+    λ asks begins. header_at-same r operands (operands_stay operands told.1.1 ((free is).1 (either_true (begins_pragma word) (asks_next word && begins_header operands) (inr (and_from (asks_next word) (begins_header operands) asks begins))))),
+    λ pragma. once-same r hash word operands (operands_stay operands told.1.1 ((free is).1 (either_true (begins_pragma word) (asks_next word && begins_header operands) (inl pragma)))),
   )
 
   lines_kept : (lines : List (List Token)) → AllOf (AllOf Told) lines → Each (WordIsFree members) lines → Each (LineStaysAlike members name) lines → Each (KeepsLine r) lines

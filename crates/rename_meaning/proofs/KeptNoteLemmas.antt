@@ -17,7 +17,7 @@ use Rattle.unit_steps.specs.declared.events.Event.{Event}
 use Rattle.unit_steps.specs.declared.events.EventKind.TheVariants as kind
 use Rattle.source_files.specs.Files.{Source}
 use Rattle.source_files.specs.KeptFiles.{KeptValue, kept_at}
-use Rattle.unit_steps.specs.Notes.{Note, Reaches, Happened, Defined, Undefined, Tested, Left, Linked, Answered, Named, Entered, Exited, named_event, before_in, pasted_of, header_of, events_of}
+use Rattle.unit_steps.specs.Notes.{Note, Reaches, Happened, Defined, Undefined, Tested, Left, Linked, Answered, Named, Entered, Exited, ReadOnce, named_event, before_in, pasted_of, header_of, events_of}
 use Rattle.unit_steps.specs.State.{Did}
 use Rattle.unit_steps.specs.Texts.{UnitTextValue, unit_text}
 use Rattle.part_respell.specs.Respelled.{member_over, put_in, put_at}
@@ -193,6 +193,7 @@ module _ (a : Analysed) (members : List Part) (name : List ℕ) (h : IsAllowed a
   note_kept (Answered t) at = tt
   note_kept (Entered at2 file before) at = tt
   note_kept (Exited at2 file before) at = tt
+  note_kept (ReadOnce passed at2 file before) at = tt
 
   pub unit_kept : WordsAreFree a.value members → LinesStayAlike a.value members name → AreWithinLimits a.value members name → (new : Source) → HoldsEdited c h.source new
       → KeepsUnit c new d.notes
@@ -264,6 +265,7 @@ module _ (a : Analysed) (members : List Part) (name : List ℕ) (h : IsAllowed a
   move_note (Answered t) at = tt
   move_note (Entered at2 file before) at = tt
   move_note (Exited at2 file before) at = tt
+  move_note (ReadOnce passed at2 file before) at = tt
 
   pub macros_move : Each (MovesMacro c) d.notes
   macros_move = each_of (MovesMacro c) d.notes move_note

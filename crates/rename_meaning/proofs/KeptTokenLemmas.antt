@@ -29,6 +29,10 @@ va_args_reserved : is_reserved_text (codes "__VA_ARGS__") ≡ true
 unfolding is_reserved_text
 va_args_reserved = refl
 
+va_opt_reserved : is_reserved_text (codes "__VA_OPT__") ≡ true
+unfolding is_reserved_text
+va_opt_reserved = refl
+
 -- a text that is not reserved is none that is
 pub other_word : (word text : List ℕ) → is_reserved_text word ≡ true → is_reserved_text text ≡ false → bytes_eq text word ≡ false
 other_word word text reserved free =
@@ -70,6 +74,7 @@ module _ (a : Analysed) (members : List Part) (name : List ℕ) (r : Renaming) (
     others = λ fixed. other_same t told (fixed-other t.kind fixed);
     asks = word-back (is_identifier t.kind) (bytes_eq (macros.spelled r t) (codes "defined")) (bytes_eq t.text (codes "defined")) (reserved_kept (codes "defined") t defined_reserved told);
     rest = word-back (is_identifier t.kind) (bytes_eq (macros.spelled r t) (codes "__VA_ARGS__")) (bytes_eq t.text (codes "__VA_ARGS__")) (reserved_kept (codes "__VA_ARGS__") t va_args_reserved told);
+    opts = word-back (is_identifier t.kind) (bytes_eq (macros.spelled r t) (codes "__VA_OPT__")) (bytes_eq t.text (codes "__VA_OPT__")) (reserved_kept (codes "__VA_OPT__") t va_opt_reserved told);
   }
 
 -- a fact of each element, in the words of laws of texts

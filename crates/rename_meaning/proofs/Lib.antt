@@ -32,7 +32,6 @@ pub mod MemberOrderLemmas
 pub mod RunLemmas
 pub mod SizeLemmas
 pub mod UnitTokenLemmas
-pub mod ReadUnitLemmas
 pub mod NamedLemmas
 pub mod BoundUnitLemmas
 pub mod LinksKeptLemmas
@@ -57,6 +56,7 @@ mod MovedLabelLemmas
 pub mod FollowTokenLemmas
 pub mod FollowLinkLemmas
 mod ReadNameLemmas
+mod UnitNameLemmas
 mod ClassLemmas
 mod BareLemmas
 mod LooseLemmas

@@ -11,8 +11,8 @@ use Rattle.cs_base.specs.Token.{Token}
 use Rattle.cs_base.specs.Units.{UnitValue as Unit_}
 use Rattle.line_shape.specs.Signs.{is_name}
 use Rattle.analysis.specs.Below.linkage_join.Linkage.{UnitValue, link_to, first_spelled, names_of, unit_links as links_in, links_after, links_of as external_links}
-use Rattle.scope_bind.specs.declared.bound.Name.{Name}
-use Rattle.scope_bind.specs.Names.{entity_at}
+use Rattle.analysis.specs.Below.scope_bind.declared.bound.Name.{Name}
+use Rattle.analysis.specs.Below.scope_bind.Names.{entity_at}
 use Rattle.expansion_laws.specs.Spelled.{is_spelled}
 use Rattle.expansion_laws.proofs.ListLemmas.{AllToks, toks_at, toks_pass}
 use Rattle.unit_laws.proofs.NoteLemmas.{LinkHas, in_at}

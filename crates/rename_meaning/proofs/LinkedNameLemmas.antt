@@ -8,7 +8,7 @@ use Rattle.std.specs.Str.{bytes_eq}
 use Rattle.std.proofs.lemmas.Bool.{cases_Bool, both_ways, and_parts, and_from, eqb-true, eq-eqb}
 use Rattle.std.proofs.lemmas.List.Elements.{All-nil, All-cons, All-head, All-tail}
 use Rattle.std.proofs.lemmas.Option.{same_Some}
-use Rattle.c99_grammar.specs.declared.dialects.Edition.{Edition}
+use Rattle.analysis.specs.Below.c99_grammar.declared.dialects.Edition.{Edition}
 use Rattle.cs_base.specs.declared.tokens.Kind.{Kind}
 use Rattle.cs_base.specs.declared.tokens.Kind.TheVariants as kind
 use Rattle.cs_base.specs.declared.tokens.Link.{Link}
@@ -16,12 +16,12 @@ use Rattle.cs_base.specs.Token.{Token}
 use Rattle.line_shape.specs.Signs.{is_name}
 use Rattle.line_shape.specs.Signs as signs
 use Rattle.analysis.specs.Below.linkage_join.Linkage.{link_to, links_of as external_links}
-use Rattle.c99_grammar.specs.Spellings.{Spelled, punctuators}
-use Rattle.c99_grammar.specs.Standard.{iso}
-use Rattle.c99_read.specs.State.{base_at, is_identifier}
-use Rattle.c99_grammar.specs.TokenClasses.{spelled_class, class_of_kind, base_class}
-use Rattle.scope_bind.specs.declared.bound.Name.{Name}
-use Rattle.scope_bind.specs.Names.{entity_at}
+use Rattle.analysis.specs.Below.c99_grammar.Spellings.{Spelled, punctuators}
+use Rattle.analysis.specs.Below.c99_grammar.Standard.{iso}
+use Rattle.analysis.specs.Below.c99_read.State.{base_at, is_identifier}
+use Rattle.analysis.specs.Below.c99_grammar.TokenClasses.{spelled_class, class_of_kind, base_class}
+use Rattle.analysis.specs.Below.scope_bind.declared.bound.Name.{Name}
+use Rattle.analysis.specs.Below.scope_bind.Names.{entity_at}
 use Rattle.analysis.specs.Analysis.{UnitAnalysis, AnalysisValue}
 use Rattle.analysis.specs.Links.{is_bound_to, first_occurrence, occurrence_link, occurrence_links, names_of_units, are_alike, unit_links, links_of}
 use Rattle.analysis.proofs.NamingLemmas.{split_at, in_left, in_right, in_filter}

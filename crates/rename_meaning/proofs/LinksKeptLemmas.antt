@@ -14,16 +14,11 @@ use Rattle.line_shape.specs.Signs.{is_name}
 use Rattle.analysis.specs.Below.linkage_join.Linkage.{UnitValue as ExternalNames, links_of as external_links}
 use Rattle.unit_steps.specs.Below.macro_expand.Renaming.{Renaming}
 use Rattle.unit_steps.specs.Below.macro_expand.Renaming as macros
-use Rattle.c99_grammar.specs.Dialects.{edition}
-use Rattle.c99_grammar.specs.Standard.{iso}
-use Rattle.c99_read.specs.State.{base_at, is_identifier}
-use Rattle.c_types.specs.declared.entity.Linkage.{Linkage}
-use Rattle.c_types.specs.declared.entity.Linkage.TheVariants.{External, Internal, Absent}
-use Rattle.c_types.specs.Declarations.{spelling_at, alike, has_linkage, is_linkage}
-use Rattle.scope_bind.specs.declared.bound.Name.{Name}
-use Rattle.scope_bind.specs.Names.{entity_at, linkage_at}
-use Rattle.tree_laws.proofs.LinkedNames.{linked_once}
-use Rattle.tree_laws.proofs.OfTexts.{trees_of_texts}
+use Rattle.analysis.specs.Below.c_types.declared.entity.Linkage.{Linkage}
+use Rattle.analysis.specs.Below.c_types.declared.entity.Linkage.TheVariants.{External, Internal, Absent}
+use Rattle.analysis.specs.Below.c_types.Declarations.{spelling_at, alike, has_linkage, is_linkage}
+use Rattle.analysis.specs.Below.scope_bind.declared.bound.Name.{Name}
+use Rattle.analysis.specs.Below.scope_bind.Names.{entity_at, linkage_at}
 use Rattle.edited_unit_laws.specs.Links.{all_links, StaysAlike}
 use Rattle.edited_unit_laws.proofs.LinksLemmas.{links_are_renamed}
 use Rattle.expansion_laws.proofs.ListLemmas.{toks_at}
@@ -44,10 +39,9 @@ use Rattle.edited_unit_laws.proofs.AnalysedUnitLemmas.{unit_is}
 use Rattle.rename_meaning.specs.KeptUnits.{change}
 use Rattle.rename_meaning.specs.KeptLinks.{LinksAreKept, LinksAreRenamedWhereAllowed}
 use Rattle.rename_meaning.proofs.ExternalNameLemmas.{alike_both, NamesHave, IsOfNames, links_of_names, AreTogether, ProjectsTogether, OwnTogether, LinkStays, none_together, all_together, names_kept}
-use Rattle.rename_meaning.proofs.LinkedNameLemmas.{all_listed, bound_name, entity_of, named_token}
+use Rattle.rename_meaning.proofs.LinkedNameLemmas.{bound_name, entity_of}
 use Rattle.rename_meaning.proofs.NamedLemmas.{alike_from}
-use Rattle.rename_meaning.proofs.ReadNameLemmas.{names_identify}
-use Rattle.rename_meaning.proofs.ReadUnitLemmas.{IsReadSo, unit_read_so}
+use Rattle.rename_meaning.proofs.UnitNameLemmas.{name_token, name_linked}
 
 pub with_first : (b x y : Bool) → (b ≡ true → x ≡ y) → (b && x) ≡ (b && y)
 with_first true x y h = h refl
@@ -151,9 +145,6 @@ module _ (a : Analysed) (members : List Part) (name : List ℕ) (r : Renaming) (
         let y = second.traced in
         (record { occurring = both.0; each = x.each }, record { occurring = both.1; each = y.each })
 
-    is_read : IsReadSo u
-    is_read = unit_read_so h.source h.workspace a.value h.accepted u i
-
     -- a token that is bound is an identifier of the unit
     pub record IsToken (k : ℕ) : Type 0 where
       pub token : Token
@@ -162,11 +153,8 @@ module _ (a : Analysed) (members : List Part) (name : List ℕ) (r : Renaming) (
 
     pub bound_token : (k e : ℕ) → entity_at u.bound.names k ≡ Some e → IsToken k
     bound_token k e bound =
-        let is = is_read in
         let n = bound_name u.bound.names k e bound in
-        let one = all_at (λ (m : Name). (is_identifier (base_at (iso (edition u.standard)) u.text.toks m.index) ≡ true) × (is_identifier (base_at (iso (edition u.standard)) u.text.toks m.entity) ≡ true)) u.bound.names
-        (all_listed _ u.bound.names (names_identify (edition u.standard) u.text.toks u.tree u.bound is.reads is.binds)) n.0 n.1 in
-        let token = named_token (edition u.standard) u.text.toks n.0.index one.0 in
+        let token = name_token a members name h u i n.0 n.1 in
         let there : slice_get u.text.toks k ≡ Some token.0 = ap (slice_get u.text.toks) (sym n.2) ∙ token.1 in
         record { token = token.0; there = there; named = (told_tok token.0 (k, there), token.2) }
 
@@ -182,14 +170,13 @@ module _ (a : Analysed) (members : List Part) (name : List ℕ) (r : Renaming) (
     -- two external names of one spelling are one token
     own_together : AreTogether r (external_names_from u.bound.names 0 u.text.toks)
     own_together t w j k same =
-        let is = is_read in
         let x = stands_at u t j in
         let y = stands_at u w k in
         let texts : alike u.text.toks x.place y.place ≡ true =
         alike_from (spelling_at u.text.toks x.place) (spelling_at u.text.toks y.place)
         (spelled_there x.place t x.there ∙ (same ∙ sym (spelled_there y.place w y.there))) in
         let place : x.place ≡ y.place =
-        linked_once u.text.toks u.tree u.bound (trees_of_texts (edition u.standard) u.text.toks u.tree is.reads) is.binds x.place y.place x.links y.links texts in
+        name_linked a members name h u i x.place y.place x.links y.links texts in
         ap (macros.spelled r) (same_Some t w (sym x.there ∙ (ap (slice_get u.text.toks) place ∙ y.there)))
 
   -- ---- links

@@ -1,17 +1,17 @@
 -- Names that are read as no typedef names, though they are uses of nothing, are identifiers (ISO/IEC 9899:1999, 6.7.5.3).
 use Rattle.std.proofs.Common.{◌≡◌, ℕ, ◌+◌, ◌==◌, ◌%◌, ◌&&◌, ◌||◌, Bool, true, false, not, List, refl}
 use Rattle.std.proofs.lemmas.Bool.{and_parts, or_left}
-use Rattle.c99_grammar.specs.declared.dialects.Edition.{Edition}
+use Rattle.analysis.specs.Below.c99_grammar.declared.dialects.Edition.{Edition}
 use Rattle.cs_base.specs.Token.{Token}
 use Rattle.c99_tree.specs.Tree.{Forest, none, token, node}
 use Rattle.c99_tree.specs.declared.production.Label.{Label}
 use Rattle.c99_tree.specs.declared.production.Production.{Production}
 use Rattle.c99_tree.specs.declared.production.Production.TheVariants.{Enumerator, Params, Pdirect}
-use Rattle.c99_grammar.specs.Standard.{iso}
-use Rattle.c99_read.specs.State.{base_at, is_identifier}
-use Rattle.c_types.specs.Trees.{is_node, is_at, has_name}
-use Rattle.scope_bind.specs.Named.{is_plain_role}
-use Rattle.scope_bind.specs.Roles.{role_of}
+use Rattle.analysis.specs.Below.c99_grammar.Standard.{iso}
+use Rattle.analysis.specs.Below.c99_read.State.{base_at, is_identifier}
+use Rattle.analysis.specs.Below.c_types.Trees.{is_node, is_at, has_name}
+use Rattle.analysis.specs.Below.scope_bind.Named.{is_plain_role}
+use Rattle.analysis.specs.Below.scope_bind.Roles.{role_of}
 use Rattle.tree_laws.specs.TreesOfTexts.{is_name_place, names_pass}
 use Rattle.renamed_tree_laws.specs.Loose.{is_listed, is_enclosed, AllLoose}
 

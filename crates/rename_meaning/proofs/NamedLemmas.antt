@@ -16,7 +16,7 @@ use Rattle.lexer.specs.Spelling.{is_identifier_text}
 use Rattle.line_shape.specs.Signs.{is_name}
 use Rattle.unit_steps.specs.Below.macro_expand.Renaming.{Renaming, renamed}
 use Rattle.unit_steps.specs.Below.macro_expand.Renaming as macros
-use Rattle.c_types.specs.Declarations.{spelling_at, alike}
+use Rattle.analysis.specs.Below.c_types.Declarations.{spelling_at, alike}
 use Rattle.tree_laws.specs.RenamedNames.{is_own_word, StaysApart}
 use Rattle.part_respell.specs.Respelled.{spelled}
 use Rattle.offences.specs.Tokens.{holds_member}

@@ -4,25 +4,35 @@ use Rattle.std.specs.Prelude.{◌&&◌, ◌||◌, cond}
 use Rattle.std.specs.List.{flat_map, list_any}
 use Rattle.std.specs.Option.{option_map_or}
 use Rattle.std.specs.Str.{bytes_eq}
-use Rattle.std.proofs.lemmas.Bool.{cases_Bool, both_ways, or_parts}
+use Rattle.std.proofs.lemmas.Bool.{cases_Bool, both_ways, false≢true, or_parts}
 use Rattle.cs_base.proofs.FileMapLemmas.{bytes_eq-same, bytes_eq-equal}
 use Rattle.cs_base.specs.declared.causes.Cause.TheVariants as cause
 use Rattle.cs_base.specs.declared.positions.Part.{Part}
 use Rattle.cs_base.specs.declared.positions.Pos.{Pos}
-use Rattle.cs_base.specs.Reserved.{is_reserved_text}
+use Rattle.cs_base.specs.Reserved.{is_reserved_text, is_reserved_by_gnu, is_reserved_in}
 use Rattle.cs_base.specs.Token.{Token}
 use Rattle.line_shape.specs.Signs.{is_name}
 use Rattle.source_files.specs.KeptFiles.{KeptValue, kept_at}
 use Rattle.part_respell.specs.Respelled.{spelled}
-use Rattle.analysis.specs.Analysis.{AnalysisValue}
+use Rattle.analysis.specs.Analysed.{Analysed}
+use Rattle.cs_base.specs.Units.{is_gnu}
+use Rattle.analysis.specs.Analysis.{UnitAnalysis, AnalysisValue}
+use Rattle.analysis.specs.Changed.{Renaming}
+use Rattle.analysis.specs.GnuUnits.{begin_of}
 use Rattle.analysis.specs.FileTokens.{file_tokens}
 use Rattle.analysis.specs.Places.{is_read_only, is_read_only_path}
 use Rattle.analysis.proofs.NamingLemmas.{in_filter}
 use Rattle.offences.specs.First.{offence, standing}
+use Rattle.renamed.specs.Renamed.{renaming_of}
+use Rattle.rename_rules.specs.GnuOffences.{has_gnu, gnu_offences, failing_by, failing_places, is_kept}
+use Rattle.rename_rules.proofs.FailingLemmas.{quiet, still_quiet}
 use Rattle.rename_rules.specs.Offences.{member_offences, spelling_offences, offences_of}
-use Rattle.rename_rules.specs.Offences.{read_only_place, read_only_places, reserved_place, reserved_places, kept_string_places, header_places, no_identifier_place, no_identifier_places, occurring_place, occurring_places, clashing_place, clashing_places, too_large_places, shadowed_places}
+use Rattle.rename_rules.specs.Offences.{read_only_place, read_only_places, reserved_place, reserved_places, kept_string_places, stringized_places, header_places, no_identifier_place, no_identifier_places, occurring_place, occurring_places, clashing_place, clashing_places, too_large_places, shadowed_places}
+use Rattle.rename_rules.specs.Escapes.{escaped_places, escaped_places_of, is_backslash, is_escaped}
+use Rattle.rename_rules.specs.Prefixes.{prefix_places}
 use Rattle.rename_rules.specs.Tokens.{all_file_tokens, pasted_tokens, start_of, starts_in, holders, is_new_spelling, clashes}
 use Rattle.offences.specs.Tokens.{member_of, holds_member, first_place}
+use Rattle.rename_meaning.specs.Allowed.{IsAllowed}
 use Rattle.edited_unit_laws.proofs.ListLemmas.{In, nil_left, nil_right, map_nil, cons_nil, flat_nil, any_at}
 
 -- ---- each kind of offence by itself
@@ -36,6 +46,8 @@ pub record NoneStand (a : AnalysisValue) (members : List Part) (name : List ℕ)
   pub clashing : clashing_places a members name ≡ []
   pub too_large : too_large_places a members name ≡ []
   pub shadowed : shadowed_places a members ≡ []
+  pub gnu : gnu_offences a members name ≡ []
+  pub failing : failing_places a members name ≡ []
 
 module _ (a : AnalysisValue) (members : List Part) (name : List ℕ) where
   pub none_stand : offences_of a members name true ≡ [] → NoneStand a members name
@@ -50,12 +62,15 @@ module _ (a : AnalysisValue) (members : List Part) (name : List ℕ) where
       let G = standing cause.Clash (clashing_places a members name) in
       let H = standing cause.TooLarge (too_large_places a members name) in
       let I = standing cause.ShadowedTypedef (shadowed_places a members) in
-      let front : (((A ++ B) ++ C) ++ D) ++ E ≡ [] = nil_left (member_offences a members name true) (spelling_offences a members name) none in
-      let rest : ((F ++ G) ++ H) ++ I ≡ [] = nil_right (member_offences a members name true) (spelling_offences a members name) none in
+      let J = gnu_offences a members name in
+      let both = quiet a members name (member_offences a members name true ++ spelling_offences a members name) none in
+      let front : (((A ++ B) ++ C) ++ D) ++ E ≡ [] = nil_left (member_offences a members name true) (spelling_offences a members name) both.0 in
+      let rest : (((F ++ G) ++ H) ++ I) ++ J ≡ [] = nil_right (member_offences a members name true) (spelling_offences a members name) both.0 in
       let m1 = nil_left (((A ++ B) ++ C) ++ D) E front in
       let m2 = nil_left ((A ++ B) ++ C) D m1 in
       let m3 = nil_left (A ++ B) C m2 in
-      let s1 = nil_left ((F ++ G) ++ H) I rest in
+      let s0 = nil_left (((F ++ G) ++ H) ++ I) J rest in
+      let s1 = nil_left ((F ++ G) ++ H) I s0 in
       let s2 = nil_left (F ++ G) H s1 in
       record {
         read_only = map_nil (offence cause.ReadOnly) (read_only_places a members) (nil_left A B m3);
@@ -65,13 +80,46 @@ module _ (a : AnalysisValue) (members : List Part) (name : List ℕ) where
         occurring = map_nil (offence cause.Occurs) (occurring_places a members name) (nil_left F G s2);
         clashing = map_nil (offence cause.Clash) (clashing_places a members name) (nil_right F G s2);
         too_large = map_nil (offence cause.TooLarge) (too_large_places a members name) (nil_right (F ++ G) H s1);
-        shadowed = map_nil (offence cause.ShadowedTypedef) (shadowed_places a members) (nil_right ((F ++ G) ++ H) I rest);
+        shadowed = map_nil (offence cause.ShadowedTypedef) (shadowed_places a members) (nil_right ((F ++ G) ++ H) I s0);
+        gnu = nil_right (((F ++ G) ++ H) ++ I) J rest;
+        failing = both.1;
       }
 
 -- ---- where strings must stay
 
-all_nil : {X : Type 0} (a b d e s : List X) → a ≡ [] → b ≡ [] → d ≡ [] → e ≡ [] → s ≡ [] → ((((a ++ b) ++ []) ++ d) ++ e) ++ s ≡ []
-all_nil a b d e s ea eb ed ee es = rw (ea, eb, ed, ee, es) refl
+all_nil : {X : Type 0} (a b c d e s : List X) → a ≡ [] → b ≡ [] → c ≡ [] → d ≡ [] → e ≡ [] → s ≡ [] → ((((a ++ b) ++ c) ++ d) ++ e) ++ s ≡ []
+all_nil a b c d e s ea eb ec ed ee es = rw (ea, eb, ec, ed, ee, es) refl
+
+or_nil : (b : Bool) (xs : List Pos) → xs ≡ [] → cond b xs [] ≡ []
+or_nil true xs none = none
+or_nil false xs none = refl
+
+-- no member is part of an escape sequence where none is part of a string
+escapes_nil : (members : List Part) (behind : Bool) (toks : List Token) → flat_map (starts_in members) toks ≡ []
+    → escaped_places_of members behind toks ≡ []
+unfolding escaped_places_of
+escapes_nil members behind [] none = refl
+escapes_nil members behind (t ∷ toks) none =
+    let here : cond (is_escaped behind t) (starts_in members t) [] ≡ [] =
+    or_nil (is_escaped behind t) (starts_in members t) (nil_left (starts_in members t) (flat_map (starts_in members) toks) none) in
+    let next = is_backslash t && not (is_escaped behind t) in
+    let later = escapes_nil members next toks (nil_right (starts_in members t) (flat_map (starts_in members) toks) none) in
+    ap (λ (ps : List Pos). ps ++ escaped_places_of members next toks) here ∙ later
+
+unit_escapes_nil : (members : List Part) (units : List UnitAnalysis)
+    → flat_map (λ (u : UnitAnalysis). flat_map (starts_in members) u.text.stringized) units ≡ []
+    → flat_map (λ (u : UnitAnalysis). escaped_places_of members false u.text.stringized) units ≡ []
+unit_escapes_nil members [] none = refl
+unit_escapes_nil members (u ∷ units) none =
+    let first = flat_map (starts_in members) u.text.stringized in
+    let others = flat_map (λ (v : UnitAnalysis). flat_map (starts_in members) v.text.stringized) units in
+    let here = escapes_nil members false u.text.stringized (nil_left first others none) in
+    ap (λ (ps : List Pos). ps ++ flat_map (λ (v : UnitAnalysis). escaped_places_of members false v.text.stringized) units) here
+    ∙ unit_escapes_nil members units (nil_right first others none)
+
+all_escapes_nil : (a : AnalysisValue) (members : List Part) → stringized_places a members ≡ [] → escaped_places a members ≡ []
+unfolding stringized_places escaped_places
+all_escapes_nil a members none = unit_escapes_nil members a.units none
 
 -- where nothing stands though strings must stay, nothing does where they may follow
 pub cleared : (a : AnalysisValue) (members : List Part) (name : List ℕ) (strings : Bool) → offences_of a members name strings ≡ [] → offences_of a members name true ≡ []
@@ -83,12 +131,17 @@ cleared a members name false none =
     let C = standing cause.Stringized (kept_string_places a members false) in
     let D = standing cause.HeaderName (header_places a members) in
     let E = standing cause.NotIdentifier (no_identifier_places a members) in
-    let front : (((A ++ B) ++ C) ++ D) ++ E ≡ [] = nil_left (member_offences a members name false) (spelling_offences a members name) none in
-    let rest : spelling_offences a members name ≡ [] = nil_right (member_offences a members name false) (spelling_offences a members name) none in
+    let both = quiet a members name (member_offences a members name false ++ spelling_offences a members name) none in
+    let front : (((A ++ B) ++ C) ++ D) ++ E ≡ [] = nil_left (member_offences a members name false) (spelling_offences a members name) both.0 in
+    let rest : spelling_offences a members name ≡ [] = nil_right (member_offences a members name false) (spelling_offences a members name) both.0 in
     let m1 = nil_left (((A ++ B) ++ C) ++ D) E front in
     let m2 = nil_left ((A ++ B) ++ C) D m1 in
     let m3 = nil_left (A ++ B) C m2 in
-    all_nil A B D E (spelling_offences a members name) (nil_left A B m3) (nil_right A B m3) (nil_right ((A ++ B) ++ C) D m1) (nil_right (((A ++ B) ++ C) ++ D) E front) rest
+    let strings : standing cause.Stringized (escaped_places a members) ≡ [] =
+    ap (standing cause.Stringized) (all_escapes_nil a members (map_nil (offence cause.Stringized) (stringized_places a members) (nil_right (A ++ B) C m2))) in
+    still_quiet a members name (member_offences a members name true ++ spelling_offences a members name)
+    (all_nil A B (standing cause.Stringized (escaped_places a members)) D E (spelling_offences a members name) (nil_left A B m3) (nil_right A B m3) strings (nil_right ((A ++ B) ++ C) D m1) (nil_right (((A ++ B) ++ C) ++ D) E front) rest)
+    both.1
 
 -- ---- starts
 
@@ -149,9 +202,14 @@ module _ (a : AnalysisValue) (members : List Part) (name : List ℕ) (none : Non
       → (is_reserved_text t.text ≡ false) × (is_reserved_text (spelled members name t) ≡ false)
   unfolding reserved_places
   holder_free t i held =
-      or_parts (is_reserved_text t.text) (is_reserved_text (spelled members name t))
-      (if_nil (is_reserved_text t.text || is_reserved_text (spelled members name t)) (starts_in members t) (some_start members t held)
-      (flat_nil (reserved_place members name) (holders a members) t none.reserved i))
+      let gnu : Bool = has_gnu a in
+      let both = or_parts (is_reserved_in gnu t.text) (is_reserved_in gnu (spelled members name t))
+      (if_nil (is_reserved_in gnu t.text || is_reserved_in gnu (spelled members name t)) (starts_in members t) (some_start members t held)
+      (flat_nil (reserved_place gnu members name) (holders a members) t
+      (nil_left (flat_map (reserved_place gnu members name) (holders a members)) (prefix_places members name 0 a.table) none.reserved) i)) in (
+        (or_parts (is_reserved_text t.text) (gnu && is_reserved_by_gnu t.text) both.0).0,
+        (or_parts (is_reserved_text (spelled members name t)) (gnu && is_reserved_by_gnu (spelled members name t)) both.1).0,
+      )
 
   -- two that are spelled alike anew were spelled alike
   pub holders_alike : (t u : Token) → In t (holders a members) → holds_member members t ≡ true → In u (holders a members)
@@ -181,3 +239,19 @@ module _ (a : AnalysisValue) (members : List Part) (name : List ℕ) (none : Non
       let no = if_nil (is_new_spelling members name (holders a members) t.text) (first_place t) placed
       (flat_nil (occurring_place members name (holders a members)) (all_file_tokens a ++ pasted_tokens a) t none.occurring i) in
       both_ways (is_new_spelling members name (holders a members) t.text) no any
+
+-- ---- units of GNU C
+
+kept_if : (gnu kept : Bool) (p : Pos) → cond (gnu && not kept) (p ∷ []) [] ≡ [] → gnu ≡ true → kept ≡ true
+kept_if gnu true p e h = refl
+kept_if true false p e h = absurd (cons_nil p [] e)
+kept_if false false p e h = absurd (false≢true h)
+
+-- where nothing stands against a renaming each unit of GNU C is read and bound as before, name for name
+pub gnu_kept : (a : Analysed) (members : List Part) (name : List ℕ) → IsAllowed a members name → (u : UnitAnalysis) → In u a.value.units
+    → is_gnu u.standard ≡ true → is_kept (renaming_of a.value members name) u ≡ true
+unfolding failing_places
+gnu_kept a members name h u i gnu =
+    let none = none_stand a.value members name h.first in
+    let r : Renaming = renaming_of a.value members name in
+    kept_if (is_gnu u.standard) (is_kept r u) (begin_of u.text.toks) (flat_nil (failing_by r) a.value.units u none.failing i) gnu

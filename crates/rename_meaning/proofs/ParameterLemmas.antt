@@ -14,8 +14,8 @@ use Rattle.cs_base.specs.Token.{Token}
 use Rattle.lexer.specs.Characters.{less_than, double_quote, is_nondigit, is_word}
 use Rattle.lexer.specs.Spelling.{is_identifier_text, is_header_text, header_close, kind_of, kind_in}
 use Rattle.lexer.specs.Tokens.{kind_or_other}
-use Rattle.line_shape.specs.MacroLine.{MacroParts, macro, spellings, is_function_like, before_close, behind_close, is_parameter_list, is_identifier_list, params_in, are_distinct, function_macro, macro_of}
-use Rattle.line_shape.specs.Signs.{is_identifier, is_punctuator, is_name, is_open, is_close, is_ellipsis}
+use Rattle.line_shape.specs.MacroLine.{MacroParts, macro, spellings, is_function_like, before_close, behind_close, is_parameter_list, is_identifier_list, has_named_rest, has_plain_rest, params_in, are_distinct, function_macro, macro_of}
+use Rattle.line_shape.specs.Signs.{is_identifier, is_punctuator, is_name, is_open, is_close}
 use Rattle.macro_body.specs.declared.definitions.Definition.{Definition}
 use Rattle.macro_body.specs.Defining.{definition_of, defined_by}
 use Rattle.unit_steps.specs.Names.{spelled_in, linked_with, parameter_named, definition_links}
@@ -141,7 +141,7 @@ function_by : (first : Token) (rest : List Token) (m : MacroParts) (o : Option (
 function_by first rest m None function is e = absurd (none-some m e)
 function_by first rest m (Some body) function is e =
     let list : List Token = before_close rest in
-    let both = cond_parts (is_parameter_list list) (macro true (params_in list) (list_any is_ellipsis list) body) m e in
+    let both = cond_parts (is_parameter_list list) (macro true (params_in list) (has_plain_rest list) (has_named_rest list) body) m e in
     let open_ = (and_parts (is_open first) (not first.gap) function).0 in
     let h : IsFunction (first ∷ rest) (params_in list) body = record {
       own = rw function refl;

@@ -16,6 +16,7 @@ use Rattle.lexer.specs.Tokens.{tokens_of, firsts_of}
 use Rattle.lexer.proofs.OriginLemmas.{length-origins}
 use Rattle.line_shape.specs.declared.items.ItemKind.{ItemKind}
 use Rattle.line_shape.specs.declared.items.ItemKind.TheVariants as kind
+use Rattle.line_shape.specs.declared.items.GnuLine.TheVariants as gnu
 use Rattle.line_shape.specs.Items.{lines_of}
 use Rattle.line_shape.specs.Signs.{is_name}
 use Rattle.unit_steps.specs.declared.events.Reached.{Reached}
@@ -50,7 +51,7 @@ use Rattle.rename_meaning.specs.Allowed.{IsAllowed}
 use Rattle.rename_meaning.specs.KeptFiles.{WordIsFree}
 use Rattle.rename_meaning.specs.NamedClasses.{WordsAreFreeWhereNamed}
 use Rattle.edited_unit_laws.proofs.ListLemmas.{In, AllOf, all_of, in_flat}
-use Rattle.rename_meaning.proofs.DirectiveLemmas.{word_of, word_not_taken, word_listed, word_first, taken_listed}
+use Rattle.rename_meaning.proofs.DirectiveLemmas.{word_of, word_not_taken, word_listed, word_first, word_later, taken_listed}
 use Rattle.rename_meaning.proofs.KeptLemmas.{named_parted, token_held, once}
 use Rattle.edited_unit_laws.proofs.FileLemmas.{token_stands}
 use Rattle.rename_meaning.proofs.SpellLemmas.{is_from, origin_in}
@@ -235,6 +236,12 @@ same_taken kind.Error evaluated toks = refl
 same_taken kind.Pragma evaluated toks = refl
 same_taken kind.Empty evaluated toks = refl
 same_taken (kind.Bad cause at nests) evaluated toks = refl
+same_taken (kind.Gnu gnu.IncludeNext) evaluated toks = refl
+same_taken (kind.Gnu gnu.Message) evaluated toks = refl
+same_taken (kind.Gnu gnu.Elifdef) true toks = refl
+same_taken (kind.Gnu gnu.Elifdef) false toks = refl
+same_taken (kind.Gnu gnu.Elifndef) true toks = refl
+same_taken (kind.Gnu gnu.Elifndef) false toks = refl
 
 -- a token that is taken from an item of a kept file
 pub record TakenFrom (table : Table) (t : Token) : Type 0 where
@@ -311,6 +318,10 @@ module _ (a : AnalysisValue) where
       (k, ap (λ (os : List (Option Pos)). slice_get os k) stands.origins ∙ origin ∙ ap (λ (q : Pos). Some (Some q)) (sym at), at)
 
 -- ---- members
+
+each_of : {X : Type 0} (P : X → Type 0) (xs : List X) → ((x : X) → In x xs → P x) → Each P xs
+each_of P [] h = tt
+each_of P (x ∷ xs) h = (h x (0, refl), each_of P xs (λ y i. h y (suc i.0, i.1)))
 
 module _ (a : Analysed) (members : List Part) (name : List ℕ) (h : IsAllowed a members name) where
   -- a part that a place names begins in what a unit took
@@ -395,11 +406,10 @@ module _ (a : Analysed) (members : List Part) (name : List ℕ) (h : IsAllowed a
     line_free : (words : List Token) → In words file_lines → WordIsFree members words
     line_free [] i = tt
     line_free (hash ∷ []) i = tt
-    line_free (hash ∷ word ∷ operands) i = λ is_one. word_free (hash ∷ word ∷ operands) word i (word_first hash word operands is_one)
-
-each_of : {X : Type 0} (P : X → Type 0) (xs : List X) → ((x : X) → In x xs → P x) → Each P xs
-each_of P [] h = tt
-each_of P (x ∷ xs) h = (h x (0, refl), each_of P xs (λ y i. h y (suc i.0, i.1)))
+    line_free (hash ∷ word ∷ operands) i = λ is_one. (
+      word_free (hash ∷ word ∷ operands) word i (word_first hash word operands is_one),
+      λ stands. each_of (λ t. holds_member members t ≡ false) operands (λ t j. word_free (hash ∷ word ∷ operands) t i (word_later hash word operands t is_one stands j)),
+    )
 
 pub words_are_free_where_named : WordsAreFreeWhereNamed
 words_are_free_where_named = λ a members name path line column h named n f is.

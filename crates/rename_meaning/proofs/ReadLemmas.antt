@@ -1,12 +1,14 @@
 -- The renamed tokens of each unit are read and bound as before.
-use Rattle.std.proofs.Common.{◌≡◌, ℕ, true, List, Some, map, slice_get}
+use Rattle.std.proofs.Common.{◌≡◌, ℕ, true, false, List, Some, map, slice_get, inl, inr, ◌∙◌}
+use Rattle.std.proofs.lemmas.Bool.{cases_Bool, and_parts}
+use Rattle.cs_base.specs.Units.{is_gnu}
 use Rattle.cs_base.specs.declared.positions.Part.{Part}
 use Rattle.cs_base.specs.Token.{Token}
 use Rattle.unit_steps.specs.Below.macro_expand.Renaming.{Renaming, renamed}
-use Rattle.c99_grammar.specs.Dialects.{edition}
-use Rattle.c99_grammar.specs.Standard.{iso}
-use Rattle.c99_read.specs.State.{base_at, is_identifier}
-use Rattle.name_chains.specs.Frames.{outermost}
+use Rattle.analysis.specs.Below.c99_grammar.Dialects.{edition}
+use Rattle.analysis.specs.Below.c99_grammar.Standard.{iso}
+use Rattle.analysis.specs.Below.c99_read.State.{base_at, is_identifier}
+use Rattle.analysis.specs.Below.scope_bind.Below.name_chains.Frames.{outermost}
 use Rattle.tree_laws.proofs.NamesRead.{names_are_read}
 use Rattle.renamed_tree_laws.specs.Loose.{StaysWhole}
 use Rattle.renamed_tree_laws.proofs.ReadBareNames.{bare_names_are_loose}
@@ -15,7 +17,7 @@ use Rattle.edited_unit_laws.specs.Analyses.{ReadsAlike}
 use Rattle.analysis.specs.Analysed.{Analysed}
 use Rattle.analysis.specs.Analysis.{UnitAnalysis}
 use Rattle.analysis.specs.Trees.{HasTree}
-use Rattle.analysis.specs.Changed.{renamed_text}
+use Rattle.analysis.specs.Changed.{renamed_text, renamed_token}
 use Rattle.renamed.specs.Renamed.{renaming_of}
 use Rattle.rename_meaning.specs.Allowed.{IsAllowed}
 use Rattle.rename_meaning.specs.KeptTokens.{Spells}
@@ -25,7 +27,12 @@ use Rattle.edited_unit_laws.proofs.ListLemmas.{In}
 use Rattle.rename_meaning.proofs.RenamingLemmas.{renamings_spell}
 use Rattle.rename_meaning.proofs.UneditedLemmas.{renamings_keep_unedited}
 use Rattle.rename_meaning.proofs.BoundUnitLemmas.{names_bind_as_before, units_are_renamed_whole}
-use Rattle.rename_meaning.proofs.ReadUnitLemmas.{unit_read_so}
+use Rattle.rename_meaning.proofs.NoneLemmas.{gnu_kept}
+use Rattle.rename_meaning.proofs.UnitNameLemmas.{gnu_by}
+use Rattle.rename_rules.specs.GnuOffences.{are_identifiers}
+use Rattle.rename_rules.specs.Below.same_readings.Readings.{reads_so}
+use Rattle.rename_rules.proofs.Below.same_readings.ReadingLemmas.{readings_found_are_so}
+use Rattle.edited_unit_laws.proofs.EditionLemmas.{reads_by_edition, binds_by_edition, read_by_edition, unit_is_read}
 use Rattle.rename_meaning.specs.KeptUnits.{change}
 use Rattle.rename_meaning.proofs.KeptUnitLemmas.{analysis_is_renamed_where_named}
 use Rattle.rename_meaning.specs.ReadUnits.{UnitsReadAsBefore, EditedFilesHaveRenamedAnalysis}
@@ -35,9 +42,9 @@ use Rattle.rename_meaning.proofs.LooseLemmas.{loose_named, loose_all}
 
 module _ (a : Analysed) (members : List Part) (name : List ℕ) (r : Renaming) (h : IsAllowed a members name) (spells : Spells members name r)
     (keeps : KeepsUnedited r) where
-  unit_reads : (u : UnitAnalysis) → In u a.value.units → ReadsAlike r u
-  unit_reads u i =
-      let is = unit_read_so h.source h.workspace a.value h.accepted u i in
+  unit_reads : (u : UnitAnalysis) → In u a.value.units → is_gnu u.standard ≡ false → ReadsAlike r u
+  unit_reads u i iso_ =
+      let is = read_by_edition u iso_ (unit_is_read h.source h.workspace a.value h.accepted u i) in
       let old : List Token = u.text.toks in
       let new : List Token = map (renamed r) u.text.toks in
       let Named : ℕ → Type 0 = λ k. is_identifier (base_at (iso (edition u.standard)) old k) ≡ true in
@@ -46,18 +53,31 @@ module _ (a : Analysed) (members : List Part) (name : List ℕ) (r : Renaming) (
       (λ k x at. bare_stays a members name r h spells keeps u i x (k, at)) in
       let loose = loose_all (edition u.standard) old Named (StaysWhole old new u.bound.typedefs) (outermost 0).label 0 u.tree.under named whole in
       record {
-        reads = renamed_alike (edition u.standard) old new u.tree u.bound is.reads is.binds (units_are_renamed_whole a members name r h spells keeps u i)
+        reads = reads_by_edition u.standard new is.not_gnu
+            ∙ renamed_alike (edition u.standard) old new u.tree u.bound is.reads is.binds (units_are_renamed_whole a members name r h spells keeps u i)
             (bases_kept a members name r h spells keeps u i) loose;
-        binds = names_bind_as_before a members name r h spells keeps u i;
+        binds = binds_by_edition u.standard new u.tree is.not_gnu ∙ names_bind_as_before a members name r h spells keeps u i iso_;
       }
+
+-- a unit of GNU C, which was read and bound again
+gnu_reads : (a : Analysed) (members : List Part) (name : List ℕ) → IsAllowed a members name → (u : UnitAnalysis) → In u a.value.units → is_gnu u.standard ≡ true
+    → ReadsAlike (change a.value members name).renaming u
+gnu_reads a members name h u i gnu =
+    let new : List Token = map (renamed_token (renaming_of a.value members name)) u.text.toks in
+    let both = and_parts (are_identifiers u.text.toks u.bound.names) (reads_so new u.tree u.bound) (gnu_kept a members name h u i gnu) in
+    let is = gnu_by u.standard new u.tree u.bound gnu (readings_found_are_so new u.tree u.bound both.1) in
+    record { reads = is.0; binds = is.1 }
 
 -- a unit of the analysis, under a renaming against which nothing stands
 unit_reads_as_before : (a : Analysed) (members : List Part) (name : List ℕ) → IsAllowed a members name → (u : UnitAnalysis) → In u a.value.units
     → ReadsAlike (change a.value members name).renaming u
-unit_reads_as_before a members name h u i =
-    let keeps = renamings_keep_unedited a members name u.text h in
-    unit_reads a members name (change a.value members name).renaming h (renamings_spell a.value members name u.text)
-    (record { untraced = keeps.untraced; numbers = keeps.numbers; still = keeps.still }) u i
+unit_reads_as_before a members name h u i = elim (cases_Bool (is_gnu u.standard)) [
+  | inl gnu ↦ gnu_reads a members name h u i gnu
+  | inr iso_ ↦
+      let keeps = renamings_keep_unedited a members name u.text h in
+      unit_reads a members name (change a.value members name).renaming h (renamings_spell a.value members name u.text)
+      (record { untraced = keeps.untraced; numbers = keeps.numbers; still = keeps.still }) u i iso_
+]
 
 -- its renamed tokens have the tree that it had
 pub unit_has_tree : (a : Analysed) (members : List Part) (name : List ℕ) → IsAllowed a members name → (k : ℕ) (u : UnitAnalysis)

@@ -1,6 +1,6 @@
 -- Names of a text that is read and bound, and the tokens that name their entities.
-use Rattle.c99_grammar.specs.Standard.{iso}
-use Rattle.c99_read.specs.State.{base_at, is_identifier}
+use Rattle.analysis.specs.Below.c99_grammar.Standard.{iso}
+use Rattle.analysis.specs.Below.c99_read.State.{base_at, is_identifier}
 use Rattle.tree_laws.proofs.EntityNames.{entities_are_names}
 use Rattle.tree_laws.proofs.HeldNames.{bound_names_pass}
 use Rattle.tree_laws.specs.ReadTexts.{ReadEntitiesAreNames, ReadNamesAreIdentifiers}

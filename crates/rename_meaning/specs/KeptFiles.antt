@@ -9,14 +9,16 @@ use Rattle.line_shape.specs.Signs.{is_hash}
 use Rattle.source_files.specs.KeptFiles.{KeptValue, kept_at}
 use Rattle.part_respell.specs.Respelled.{put_of}
 use Rattle.offences.specs.Tokens.{holds_member}
-use Rattle.edited_unit_laws.specs.Lines.{Each}
+use Rattle.edited_unit_laws.specs.Lines.{Each, stands_behind}
 use Rattle.analysis.specs.Analysed.{Analysed}
 use Rattle.analysis.specs.Analysis.{AnalysisValue}
 use Rattle.rename_meaning.specs.Allowed.{IsAllowed}
 
--- the word of a directive line, which stands behind its `#` (6.10 paragraph 1), holds no member
+-- the word of a directive line, which stands behind its `#` (6.10 paragraph 1), holds no member, nor does what is read behind
+-- it as it stands
 abbrev pub WordIsFree : List Part → List Token → Type 0
-WordIsFree members (hash ∷ word ∷ operands) = is_hash hash ≡ true → holds_member members word ≡ false
+WordIsFree members (hash ∷ word ∷ operands) =
+    is_hash hash ≡ true → (holds_member members word ≡ false) × (stands_behind word operands ≡ true → Each (λ t. holds_member members t ≡ false) operands)
 WordIsFree members _ = Unit {0}
 
 -- So it is with each line of each kept file. The rules of links join no such word with anything, and a place names

@@ -7,7 +7,6 @@
 //! `renamed`). It reads and writes no files: `apply` of `edited_files` puts the edits.
 #![tactic(auto)]
 
-mod edits;
 mod plan;
 
 pub use plan::plan_rename;

@@ -1,10 +1,12 @@
 // The edits of a renaming, or its first refusal.
-ghost use Rattle.std.specs.Prelude.{◌≡◌, None, IfOk};
+ghost use Rattle.std.specs.Prelude.{◌≡◌, List, None, IfOk};
 ghost use Rattle.offences.specs.Class.{IsClass};
 ghost use Rattle.cs_base.specs.declared.causes.Cause.TheVariants.{Stringized as stringized_cause};
 ghost use Rattle.offences.specs.First.{standing, FirstThen, IsFirst};
 ghost use Rattle.rename_rules.specs.Offences.{member_offences, offences_of, spelling_offences};
 ghost use Rattle.rename_rules.specs.Offences.{kept_string_places};
+ghost use Rattle.rename_rules.specs.GnuOffences.{with_failing};
+ghost use Rattle.offences.specs.declared.firsts.Offence.{Offence as AnOffence};
 ghost use Rattle.rename_rules.specs.Renaming.{IsClassRenamed, IsRenamed, IsRenaming};
 ghost use Rattle.offences.specs.Answers.{GivesOne};
 ghost use Rattle.offences.specs.Refusals.{refusal_of};
@@ -12,14 +14,13 @@ ghost use Rattle.rename_rules.specs.Runs.{edits_of};
 ghost use Rattle.renamed.specs.Rename.{RenamesOver};
 ghost use Rattle.analysis.specs.Parts.{IsPart};
 
-use crate::edits::edit_files;
 use analysis::Analysis;
 use cs_base::{Edits, Memory, Part};
 use lexer::is_identifier;
 use offences::{Offence, PlanFault, Refusal, refused};
 use rename_rules::{
-    Renaming, clashing, header_names, no_identifiers, occurring, read_only, reserved, shadowed,
-    stringized, too_large,
+    Renaming, clashing, edit_files, escaped, failing, gnu_offences, header_names, no_identifiers,
+    occurring, read_only, reserved, shadowed, stringized, too_large,
 };
 use std::alloc::Global;
 
@@ -131,7 +132,24 @@ fn first_offence(
         (offences_of renaming.now.class.analysis.value renaming.now.class.members renaming.now.name strings)) }
 {
     let at_members = member_offences(alloc, renaming, strings)?;
-    spelling_offences(alloc, renaming, at_members)
+    let known = spelling_offences(alloc, renaming, at_members)?;
+    or_failing(alloc, renaming, known)
+}
+
+// The first of some offences, and where there are none, of those of units of GNU C that would be read or bound otherwise.
+fn or_failing(
+    alloc: Global,
+    renaming: &Renaming<'_>,
+    known: Option<Offence>,
+) -> Result<Option<Offence>, Memory>
+    ensures { IfOk result (λ first. (offences : List AnOffence) → IsFirst renaming.now.class.analysis.value.table offences known
+        → IsFirst renaming.now.class.analysis.value.table
+        (with_failing renaming.now.class.analysis.value renaming.now.class.members renaming.now.name offences) first) }
+{
+    match known {
+        Some(offence) => Ok(Some(offence)),
+        None => failing(alloc, renaming, None),
+    }
 }
 
 // The first of those at members and the tokens that hold them.
@@ -150,13 +168,13 @@ fn member_offences(
     Ok(no_identifiers(renaming, headers))
 }
 
-// The first of these and of those of strings that must stay.
+// The first of these and of those of strings that must stay, or of their escape sequences.
 fn of_strings(renaming: &Renaming<'_>, strings: bool, first: Option<Offence>) -> Option<Offence>
     ensures { FirstThen renaming.now.class.analysis.value.table (standing stringized_cause
         (kept_string_places renaming.now.class.analysis.value renaming.now.class.members strings)) first result }
 {
     if strings {
-        first
+        escaped(renaming, first)
     } else {
         stringized(renaming, first)
     }
@@ -174,5 +192,6 @@ fn spelling_offences(
     let words = occurring(renaming, first);
     let pairs = clashing(alloc, renaming, words)?;
     let sizes = too_large(alloc, renaming, pairs)?;
-    Ok(shadowed(renaming, sizes))
+    let hidden = shadowed(renaming, sizes);
+    gnu_offences(alloc, renaming, hidden)
 }

@@ -4,4 +4,11 @@ pub mod SpelledLemmas
 pub mod OccurrenceLemmas
 pub mod RunLemmas
 pub mod SizeLemmas
+pub mod PrefixLemmas
+pub mod EscapeLemmas
 pub mod PlannedLemmas
+pub mod EditLemmas
+pub mod PathLemmas
+pub mod FailingLemmas
+mod GnuLemmas
+pub mod Below

@@ -1,12 +1,10 @@
 -- Tables of old and new spellings.
-use Rattle.std.proofs.Common.{◌≡◌, ℕ, ◌+◌, Bool, true, false, List, [], ◌∷◌, ◌++◌, inl, inr, refl, sym, ap, ◌∙◌}
+use Rattle.std.proofs.Common.{◌≡◌, ℕ, Bool, true, false, List, [], ◌∷◌, inl, inr, refl, sym, ap, ◌∙◌}
 use Rattle.std.specs.Prelude.{◌||◌, ◌&&◌}
 use Rattle.std.specs.List.{list_any}
 use Rattle.std.specs.Str.{bytes_eq}
 use Rattle.std.proofs.lemmas.Bool.{cases_Bool, and_parts}
-use Rattle.std.proofs.lemmas.List.Folds.{list_any-append}
 use Rattle.std.proofs.lemmas.Slice.Eq.{bytes_eq-Decides}
-use Rattle.std.proofs.Math.Bool.{or-false}
 use Rattle.cs_base.specs.declared.positions.Part.{Part}
 use Rattle.cs_base.specs.Token.{Token}
 use Rattle.part_respell.specs.Respelled.{spelled}
@@ -41,10 +39,6 @@ adds_known r (x ∷ table) h test =
           let later : list_any (λ x. is_old r.old x && is_new r.new x) table ≡ true = rw other at h in
           or_later (test x) (list_any test table) (test r) (adds_known r table later test)
     ]
-
-pub adds_new : (r : RespellingValue) (table : List RespellingValue) → Adds r table (table ++ r ∷ [])
-adds_new r table test =
-    list_any-append test table (r ∷ []) ∙ ap (λ (b : Bool). list_any test table || b) (or-false (test r))
 
 -- ---- what the table tells
 

@@ -9,13 +9,13 @@ use Rattle.std.proofs.lemmas.Bool.{cases_Bool, cases_lt, eq-eqb, eqb-true, ltb-t
 use Rattle.std.proofs.lemmas.Map.Keys.{Less-from_sorted, sorted_tail}
 use Rattle.cs_base.specs.declared.positions.Part.{Part}
 use Rattle.cs_base.specs.declared.positions.Pos.{Pos}
-use Rattle.eclass_map.specs.Positions.{along}
+use Rattle.analysis.specs.Below.eclass_map.Positions.{along}
 use Rattle.part_respell.specs.Order.{AreInOrder}
 use Rattle.analysis.specs.Analysis.{AnalysisValue}
 use Rattle.analysis.specs.Parts.{IsStart, IsPart, AreMembers, part_cmp}
 use Rattle.analysis.proofs.ListingLemmas.{in_one_file}
 use Rattle.rename_rules.specs.Runs.{with_member, runs, is_in, run_length, AreApart}
-use Rattle.eclass_map.proofs.PartPlaces.{same_pos}
+use Rattle.analysis.proofs.Below.eclass_map.PartPlaces.{same_pos}
 
 -- ---- members of one file are apart
 

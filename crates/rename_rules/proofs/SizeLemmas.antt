@@ -8,7 +8,7 @@ use Rattle.std.proofs.lemmas.List.{at_drop_more, at_drop_all, map-append}
 use Rattle.std.proofs.lemmas.Option.{same_Some, slice_get-get_or}
 use Rattle.cs_base.specs.declared.causes.Cause.TheVariants as cause
 use Rattle.cs_base.specs.declared.positions.Part.{Part}
-use Rattle.eclass_map.specs.ClassTable.{nowhere}
+use Rattle.analysis.specs.Below.eclass_map.ClassTable.{nowhere}
 use Rattle.analysis.specs.Below.source_files.Files.{Table, Entry, Absent, entry}
 use Rattle.analysis.specs.Below.source_files.KeptFiles.{kept_at}
 use Rattle.part_respell.specs.Order.{AreInOrder}
@@ -93,10 +93,6 @@ front_in_order (n ∷ ns) apart m at =
     let same : n ≡ m = at_front (prefix_len (is_in n.start.file) ns) n ns m at in
     let P : Part → Type 0 = λ p. AreInOrder p.start.file 0 (take (run_length (n ∷ ns)) (n ∷ ns)) in
     subst P same (run_order n ns apart)
-
-pub some_length : (rest : List Part) → 1 ≤ length rest → 1 ≤ run_length rest
-some_length [] some = absurd (omega (arith, some))
-some_length (m ∷ ms) some = omega arith
 
 -- one run more
 pub total_next : (a : AnalysisValue) (name : List ℕ) (rest : List Part) (total more whole : ℕ) → 1 ≤ length rest

@@ -1,5 +1,5 @@
 -- Units, files and tokens, one after another.
-use Rattle.std.proofs.Common.{◌≡◌, ℕ, ◌+◌, ◌-◌, ◌<◌, ◌≤◌, Bool, List, [], ◌∷◌, ◌++◌, length, take, drop, get_or, Option, Some, None, slice_get, refl, sym, ap, ◌∙◌, append_assoc, append-nil, arith}
+use Rattle.std.proofs.Common.{◌≡◌, ℕ, ◌+◌, ◌<◌, ◌≤◌, Bool, List, [], ◌∷◌, ◌++◌, length, take, drop, get_or, Option, Some, None, slice_get, refl, sym, ap, ◌∙◌, append_assoc, append-nil}
 use Rattle.std.specs.Prelude.{filter}
 use Rattle.std.specs.List.{flat_map}
 use Rattle.std.specs.Option.{option_map_or}
@@ -15,7 +15,7 @@ use Rattle.analysis.specs.Below.source_files.Files.{Table, Entry, Absent, entry}
 use Rattle.analysis.specs.Below.source_files.KeptFiles.{kept_at}
 use Rattle.analysis.specs.Analysis.{AnalysisValue, UnitAnalysis}
 use Rattle.analysis.specs.BroughtNumbers.{all_brought}
-use Rattle.analysis.specs.FileTokens.{file_tokens, kept_tokens as parted_tokens, numbers_brought, table_tokens}
+use Rattle.analysis.specs.FileTokens.{file_tokens, kept_tokens as parted_tokens, table_tokens}
 use Rattle.offences.specs.declared.firsts.Offence.{Offence}
 use Rattle.offences.specs.First.{offence, standing, FirstThen}
 use Rattle.rename_rules.specs.Tokens.{holders, pasted_tokens}

@@ -1,8 +1,16 @@
 -- What the public contracts rest on.
 pub mod Tokens
+pub mod Prefixes
+pub mod Escapes
 pub mod Runs
+pub mod GnuOffences
 pub mod Offences
 pub mod Renaming
 -- What inner functions promise each other.
+pub mod GnuTexts
+pub mod GnuUnits
 pub mod Respellings
 pub mod RenamingValue
+pub mod FileOrder
+-- Words of a crate below, passed on.
+pub mod Below

@@ -1,4 +1,4 @@
--- What stands against the renaming of a class to a name (this project's): nine offences, each at the places where
+-- What stands against the renaming of a class to a name (this project's): eleven offences, each at the places where
 -- it stands. A member's place is that of its first character.
 use Rattle.std.specs.Prelude.{ℕ, ◌&&◌, ◌||◌, nat_le, nat_lt, if◌then◌else◌, Bool, List, [], ◌∷◌, ◌++◌, slice_get}
 use Rattle.std.specs.List.{flat_map, list_any}
@@ -6,7 +6,7 @@ use Rattle.std.specs.Option.{option_map_or}
 use Rattle.std.specs.Str.{bytes_eq}
 use Rattle.cs_base.specs.declared.positions.Part.{Part}
 use Rattle.cs_base.specs.declared.positions.Pos.{Pos}
-use Rattle.cs_base.specs.Reserved.{is_reserved_text}
+use Rattle.cs_base.specs.Reserved.{is_reserved_in}
 use Rattle.cs_base.specs.Token.{Token}
 use Rattle.cs_base.specs.Limits.{most_bytes_of_all}
 use Rattle.analysis.specs.Below.line_shape.Signs.{is_name}
@@ -15,6 +15,9 @@ use Rattle.analysis.specs.Below.c_types.Declarations.{spelling_at}
 use Rattle.part_respell.specs.Respelled.{spelled}
 use Rattle.analysis.specs.Analysis.{UnitAnalysis, AnalysisValue}
 use Rattle.analysis.specs.Places.{is_read_only}
+use Rattle.rename_rules.specs.GnuOffences.{has_gnu, gnu_offences, with_failing}
+use Rattle.rename_rules.specs.Escapes.{escaped_places}
+use Rattle.rename_rules.specs.Prefixes.{prefix_places}
 use Rattle.rename_rules.specs.Runs.{runs, is_too_large, new_size_of_all}
 use Rattle.rename_rules.specs.Tokens.{all_file_tokens, pasted_tokens, holders, starts_in, is_new_spelling, is_old_spelling, clashes}
 use Rattle.offences.specs.Tokens.{first_place}
@@ -29,21 +32,23 @@ read_only_place a m = if is_read_only a.table a.workspace.readonly m.start.file 
 unfoldable pub read_only_places : AnalysisValue → List Part → List Pos
 read_only_places a members = flat_map (read_only_place a) members
 
--- Reserved: a member in a file token or pasted token whose old or new spelling is reserved
-abbrev pub reserved_place : List Part → List ℕ → Token → List Pos
-reserved_place members name t =
-    if is_reserved_text t.text || is_reserved_text (spelled members name t) then starts_in members t else []
+-- Reserved: a member in a file token or pasted token whose old or new spelling is reserved; where a unit is of GNU C more are
+abbrev pub reserved_place : Bool → List Part → List ℕ → Token → List Pos
+reserved_place gnu members name t =
+    if is_reserved_in gnu t.text || is_reserved_in gnu (spelled members name t) then starts_in members t else []
 
+-- Reserved: such a member, and one in a name that would become the prefix of a constant
 unfoldable pub reserved_places : AnalysisValue → List Part → List ℕ → List Pos
-reserved_places a members name = flat_map (reserved_place members name) (holders a members)
+reserved_places a members name =
+    flat_map (reserved_place (has_gnu a) members name) (holders a members) ++ prefix_places members name 0 a.table
 
 -- Stringized: a member in a token that `#` made a string of (6.10.3.2)
 unfoldable pub stringized_places : AnalysisValue → List Part → List Pos
 stringized_places a members = flat_map (λ (u : UnitAnalysis). flat_map (starts_in members) u.text.stringized) a.units
 
--- the same, where strings must stay: not where they may follow the renaming
+-- the same, where strings must stay; where they may follow the renaming, only a member that would change an escape sequence
 abbrev pub kept_string_places : AnalysisValue → List Part → Bool → List Pos
-kept_string_places a members strings = if strings then [] else stringized_places a members
+kept_string_places a members strings = if strings then escaped_places a members else stringized_places a members
 
 -- HeaderName: a member in a token of an include line that was expanded (6.10.2 paragraph 4)
 unfoldable pub header_places : AnalysisValue → List Part → List Pos
@@ -127,7 +132,10 @@ spelling_offences a members name =
     ++ standing cause.Clash (clashing_places a members name)
     ++ standing cause.TooLarge (too_large_places a members name)
     ++ standing cause.ShadowedTypedef (shadowed_places a members)
+    -- Reserved once more, and AssemblerText, in units of GNU C
+    ++ gnu_offences a members name
 
--- all offences against a renaming, in no order
+-- All offences against a renaming, in no order; where there are none of these, those of units of GNU C that would be read or bound
+-- otherwise.
 abbrev pub offences_of : AnalysisValue → List Part → List ℕ → Bool → List Offence
-offences_of a members name strings = member_offences a members name strings ++ spelling_offences a members name
+offences_of a members name strings = with_failing a members name (member_offences a members name strings ++ spelling_offences a members name)

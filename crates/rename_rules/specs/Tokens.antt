@@ -1,5 +1,5 @@
 -- Tokens that hold members of a class (this project's): what a renaming spells otherwise.
-use Rattle.std.specs.Prelude.{ℕ, ◌+◌, ◌&&◌, not, Bool, Option, List, [], ◌∷◌, ◌++◌, filter}
+use Rattle.std.specs.Prelude.{ℕ, ◌&&◌, not, Bool, Option, List, [], ◌∷◌, ◌++◌, filter}
 use Rattle.std.specs.List.{flat_map, list_any}
 use Rattle.std.specs.Option.{option_map_or}
 use Rattle.std.specs.Str.{bytes_eq}

@@ -1,14 +1,25 @@
 //! What a renaming does to an analysed workspace, and what stands against it.
 //!
-//! The definitions over an analysis: the tokens that hold members of a class (`specs/Tokens.antt`), the nine
-//! offences against a renaming, each at the places where it stands (`specs/Offences.antt`), the first of them
-//! (`First` of the crate `offences`), and the answer for a place and a new name (`specs/Renaming.antt`): the edits of all files
-//! that hold a member, or the first refusal. The functions tell of one token or one offence: which member holds a
-//! character, how a token is spelled anew. The plan of a whole renaming, and
-//! what a renaming keeps, belong to the crates above. Read the four files in this order.
+//! The definitions over an analysis: the tokens that hold members of a class (`specs/Tokens.antt`), the eleven
+//! offences against a renaming, each at the places where it stands (`specs/Offences.antt`, with `specs/Prefixes.antt` for new
+//! names in front of constants, `specs/Escapes.antt` for members behind a backslash, and `specs/GnuOffences.antt` for those that
+//! units of GNU C have of their own), the first of them (`First` of the crate `offences`), and the answer for a place and a new name
+//! (`specs/Renaming.antt`): the edits of all files that hold a member, or the first refusal. The functions tell of one token or
+//! one offence: which member holds a character, how a token is spelled anew; and `edit_files` gives the edits, file by file in the
+//! order of paths (`specs/FileOrder.antt`).
+//!
+//! A unit of GNU C is looked at twice: `gnu_offences` reads its tree again, which lists names that may denote nothing and texts for
+//! the assembler; and where nothing else stands, `failing` reads and binds its renamed tokens, and holds both against what they
+//! were. The plan of a whole renaming, and what a renaming keeps, belong to the crates above. Read the first four files in this
+//! order.
 #![tactic(auto)]
 
 mod bare_offences;
+mod constant_prefixes;
+mod edits;
+mod escapes;
+mod failing_units;
+mod gnu_texts;
 mod held_tokens;
 mod member_offences;
 mod occurrences;
@@ -16,9 +27,14 @@ mod renamings;
 mod respelling_table;
 mod sizes;
 mod spelling;
+mod symbols;
 mod token_offences;
+mod words_and_texts;
 
 pub use bare_offences::shadowed;
+pub use edits::edit_files;
+pub use escapes::escaped;
+pub use failing_units::failing;
 pub use held_tokens::holders;
 pub use member_offences::{header_names, no_identifiers, read_only, stringized};
 pub use occurrences::occurring;
@@ -27,3 +43,4 @@ pub use respelling_table::{Respelling, is_clash, is_new_spelling, is_old_spellin
 pub use sizes::{run_length, too_large};
 pub use spelling::spelled;
 pub use token_offences::{clashing, reserved};
+pub use words_and_texts::gnu_offences;

@@ -1,5 +1,5 @@
 // Causes that stand at members of a class.
-ghost use Rattle.std.specs.Prelude.{◌≡◌, ◌≤◌, Some, length, slice_get};
+ghost use Rattle.std.specs.Prelude.{◌≡◌, Some, length};
 ghost use Rattle.std.specs.List.{flat_map};
 ghost use Rattle.cs_base.specs.declared.causes.Cause.TheVariants as cause;
 ghost use Rattle.analysis.specs.Below.line_shape.Signs.{is_name};
@@ -141,7 +141,8 @@ fn header_names_in(a: &Analysis, class: &Class<'_>, first: Option<Offence>) -> O
     now
 }
 
-fn is_name(tok: &Tok) -> bool
+/// Whether a token is an identifier.
+pub(crate) fn is_name(tok: &Tok) -> bool
     ensures { result ≡ is_name tok.now }
 {
     match tok.kind() {

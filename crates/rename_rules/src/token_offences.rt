@@ -1,26 +1,28 @@
 // Causes that stand at the tokens which hold members of a class.
 ghost use Rattle.std.specs.Prelude.{◌≡◌, ◌||◌, IfOk};
 ghost use Rattle.std.specs.List.{flat_map};
-ghost use Rattle.cs_base.specs.Reserved.{is_reserved_text};
+ghost use Rattle.cs_base.specs.Reserved.{is_reserved_in};
 ghost use Rattle.cs_base.specs.declared.causes.Cause.TheVariants as cause;
 ghost use Rattle.offences.specs.First.{standing, FirstThen};
 ghost use Rattle.rename_rules.specs.Offences.{reserved_place, reserved_places, clashing_place, clashing_places};
 ghost use Rattle.rename_rules.specs.RenamingValue.{held};
 
+use crate::constant_prefixes::prefixes;
 use crate::member_offences::in_token;
 use crate::renamings::Renaming;
 use crate::respelling_table::is_clash;
 use crate::spelling::spelled;
+use crate::words_and_texts::has_gnu;
 use analysis::Analysis;
-use cs_base::{Cause, Memory, Tok, is_reserved};
+use cs_base::{Cause, Memory, Tok, is_reserved_in};
 use offences::{Class, Offence};
 use std::alloc::Global;
 
 // Whether the old or the new spelling of a token is reserved.
-fn is_reserved_in(tok: &Tok, new: &[u8]) -> bool
-    ensures { result ≡ (is_reserved_text tok.now.text || is_reserved_text new.now) }
+fn is_reserved(gnu: bool, tok: &Tok, new: &[u8]) -> bool
+    ensures { result ≡ (is_reserved_in gnu tok.now.text || is_reserved_in gnu new.now) }
 {
-    is_reserved(tok.text()) || is_reserved(new)
+    is_reserved_in(gnu, tok.text()) || is_reserved_in(gnu, new)
 }
 
 // `Reserved` in a token.
@@ -29,13 +31,14 @@ fn reserved_in(
     a: &Analysis,
     class: &Class<'_>,
     name: &[u8],
+    gnu: bool,
     tok: &Tok,
     first: Option<Offence>,
 ) -> Result<Option<Offence>, Memory>
-    ensures { IfOk result (FirstThen a.now.value.table (standing cause.Reserved (reserved_place class.now.members name.now tok.now)) first) }
+    ensures { IfOk result (FirstThen a.now.value.table (standing cause.Reserved (reserved_place gnu class.now.members name.now tok.now)) first) }
 {
     let new = spelled(alloc, class, name, tok)?;
-    if is_reserved_in(tok, &new) {
+    if is_reserved(gnu, tok, &new) {
         Ok(in_token(a, class, tok, Cause::Reserved, first))
     } else {
         Ok(first)
@@ -48,20 +51,22 @@ fn reserved_in_all(
     a: &Analysis,
     class: &Class<'_>,
     name: &[u8],
+    gnu: bool,
     toks: &[Tok],
     first: Option<Offence>,
 ) -> Result<Option<Offence>, Memory>
     ensures { IfOk result (FirstThen a.now.value.table (standing cause.Reserved
-        (flat_map (reserved_place class.now.members name.now) toks.now)) first) }
+        (flat_map (reserved_place gnu class.now.members name.now) toks.now)) first) }
 {
     let mut now = first;
     for tok in toks {
-        now = reserved_in(alloc, a, class, name, tok, now)?;
+        now = reserved_in(alloc, a, class, name, gnu, tok, now)?;
     }
     Ok(now)
 }
 
-/// `Reserved`: at each member in a token whose old or new spelling is reserved.
+/// `Reserved`: at each member in a token whose old or new spelling is reserved, or whose new spelling would become the
+/// prefix of a constant behind it. Where a unit is of GNU C, its words are reserved too.
 pub fn reserved(
     alloc: Global,
     renaming: &Renaming<'_>,
@@ -72,7 +77,17 @@ pub fn reserved(
 {
     let class = renaming.class();
     let a = class.analysis();
-    reserved_in_all(alloc, a, class, renaming.name(), renaming.toks(), first)
+    let gnu = has_gnu(a);
+    let now = reserved_in_all(
+        alloc,
+        a,
+        class,
+        renaming.name(),
+        gnu,
+        renaming.toks(),
+        first,
+    )?;
+    prefixes(alloc, a, renaming, now)
 }
 
 // `Clash` in a token.

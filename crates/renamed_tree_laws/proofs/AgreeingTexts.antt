@@ -1,5 +1,6 @@
 -- A text whose names agree with the tree of another one is read to it.
 use Rattle.std.proofs.Common.{ℕ, ◌≡◌, Bool, true, List, length, Result, Ok, Err, sym, ap, subst, ◌∙◌}
+use Rattle.c99_grammar.specs.declared.dialects.Dialect.TheVariants.{Iso}
 use Rattle.c99_grammar.specs.declared.dialects.Edition.{Edition}
 use Rattle.cs_base.specs.Token.{Token}
 use Rattle.c99_tree.specs.Tree.{Node, node_of, lone}
@@ -41,7 +42,7 @@ module _ (std : Edition) where
         (unit_asks std a b same (steps_for (produce TranslationUnit) (at_first a))) e
 
   pub read_so : (a b : List Token) (tree : Node) → length a ≡ length b → ((k : ℕ) → base_at (iso std) a k ≡ base_at (iso std) b k) → read_of (iso std) a ≡ Ok tree
-      → agrees std b tree.under (before (length b)) ≡ true → IsReadSo std a b
+      → agrees std b tree.under (before (length b)) ≡ true → IsReadSo (Iso std) a b
   read_so a b tree as_long same e agree = record {
     as_long = as_long;
     classes = same;
@@ -49,4 +50,4 @@ module _ (std : Edition) where
   }
 
 pub agreeing_alike : AgreeingTextsReadAlike
-agreeing_alike std a b tree as_long same e agree = one_kind_alike std a b tree (read_so std a b tree as_long same e agree) e
+agreeing_alike std a b tree as_long same e agree = one_kind_alike (Iso std) a b tree (read_so std a b tree as_long same e agree) e

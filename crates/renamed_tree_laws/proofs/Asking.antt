@@ -1,7 +1,8 @@
 -- What is asked of a second text's names along the reading of a first one, where these names agree with the tree that is
 -- read.
-use Rattle.std.proofs.Common.{ℕ, ◌+◌, ◌≤◌, ◌≡◌, Bool, true, false, ◌&&◌, not, if◌then◌else◌, ◌==◌, List, [], ◌∷◌, length, Ok, Err, nat_lt, refl, sym, ap, subst, ◌∙◌, arith}
+use Rattle.std.proofs.Common.{ℕ, ◌+◌, ◌≤◌, ◌≡◌, Bool, true, false, ◌&&◌, if◌then◌else◌, ◌==◌, List, [], ◌∷◌, length, Ok, Err, nat_lt, refl, sym, ap, subst, ◌∙◌, arith}
 use Rattle.std.proofs.lemmas.Bool.{false≢true, and_parts, not-true, and_from}
+use Rattle.c99_grammar.specs.declared.dialects.Dialect.TheVariants.{Iso}
 use Rattle.c99_grammar.specs.declared.dialects.Edition.{Edition}
 use Rattle.cs_base.specs.Token.{Token}
 use Rattle.c99_tree.specs.Tree.{Forest, none, token, node, Node, node_of, leaf, inner, put, lone, collapsed}
@@ -31,10 +32,6 @@ use Rattle.renamed_tree_laws.specs.Respelled.{is_bare_so, is_kind_so, is_node_so
 collapsed_plain : (p : Production) (n : ℕ) → collapses p ≡ true → is_at (labelled p n) Pdirect 2 ≡ false
 collapsed_plain Pdirect n h = absurd (false≢true h)
 collapsed_plain _ n h = refl
-
-pub both_after : (P Q : State → Type 0) (r : Step) → After P r → After Q r → After (λ s. P s × Q s) r
-both_after P Q (Err stop) m m' = tt
-both_after P Q (Ok s) m m' = (m, m')
 
 module _ (std : Edition) where
   -- ---- Children that agree did so with one less
@@ -75,22 +72,22 @@ module _ (std : Edition) where
 
   -- ---- Kinds that nothing is asked of
 
-  quiet_kind : (b : List Token) (p : Production) (n : ℕ) (scopes : List (List Declaration)) (k : ℕ) → is_quiet p n ≡ true → is_kind_so std b p n scopes k ≡ true
-  quiet_kind b Primary n scopes k h = ap (λ c. if c then is_bare_so std b scopes k else true) (not-true (n == 1) h)
-  quiet_kind b Main n scopes k h = ap (λ c. if c then is_kind_so std b Main 4 scopes k else true) (not-true (n == 4) h)
-  quiet_kind b Params n scopes k h = ap (λ c. if c then is_bare_so std b scopes k else true) (not-true (n == 1) h)
+  quiet_kind : (b : List Token) (p : Production) (n : ℕ) (scopes : List (List Declaration)) (k : ℕ) → is_quiet p n ≡ true → is_kind_so (Iso std) b p n scopes k ≡ true
+  quiet_kind b Primary n scopes k h = ap (λ c. if c then is_bare_so (Iso std) b scopes k else true) (not-true (n == 1) h)
+  quiet_kind b Main n scopes k h = ap (λ c. if c then is_kind_so (Iso std) b Main 4 scopes k else true) (not-true (n == 4) h)
+  quiet_kind b Params n scopes k h = ap (λ c. if c then is_bare_so (Iso std) b scopes k else true) (not-true (n == 1) h)
   quiet_kind b _ n scopes k h = refl
 
-  plain_node : (b : List Token) (p : Production) (n : ℕ) (scopes : List (List Declaration)) (k : ℕ) → is_at (labelled p n) Pdirect 2 ≡ false → is_node_so std b p n scopes k ≡ true
-  plain_node b Pdirect n scopes k h = ap (λ c. if c then is_bare_so std b scopes (k + 1) else true) h
+  plain_node : (b : List Token) (p : Production) (n : ℕ) (scopes : List (List Declaration)) (k : ℕ) → is_at (labelled p n) Pdirect 2 ≡ false → is_node_so (Iso std) b p n scopes k ≡ true
+  plain_node b Pdirect n scopes k h = ap (λ c. if c then is_bare_so (Iso std) b scopes (k + 1) else true) h
   plain_node b _ n scopes k h = refl
 
   module _ (a b : List Token) where
     abbrev pub of_token : State → Bool
-    of_token s = is_kind_so std b s.built.label.production s.built.label.alternative s.names.scopes s.at
+    of_token s = is_kind_so (Iso std) b s.built.label.production s.built.label.alternative s.names.scopes s.at
 
     abbrev pub of_node : Production → ℕ → State → Bool
-    of_node p n s = is_node_so std b p n s.names.scopes s.at
+    of_node p n s = is_node_so (Iso std) b p n s.names.scopes s.at
 
     -- Where the second text's names agree with what is built at s', they did so at s, and what was asked between is so.
     abbrev pub Asks : Label → Bool → State → State → Type 0
@@ -121,7 +118,7 @@ module _ (std : Edition) where
 
     pub quiet_so : (l : Label) (first : ℕ) (s : State) → is_quiet l.production l.alternative ≡ true → IsIn l first s → of_token s ≡ true
     quiet_so l first s q i =
-        ap (λ (m : Label). is_kind_so std b m.production m.alternative s.names.scopes s.at) i.label ∙ quiet_kind b l.production l.alternative s.names.scopes s.at q
+        ap (λ (m : Label). is_kind_so (Iso std) b m.production m.alternative s.names.scopes s.at) i.label ∙ quiet_kind b l.production l.alternative s.names.scopes s.at q
 
     pub quiet_asks : (l : Label) (first : ℕ) (s : State) → is_quiet l.production l.alternative ≡ true → IsIn l first s → Asks l (of_token s) s (with_token s)
     quiet_asks l first s q i = token_asks l s (of_token s) (λ o ends bounds f t. quiet_so l first s q i)

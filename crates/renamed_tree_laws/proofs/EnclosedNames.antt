@@ -1,6 +1,7 @@
 -- A parameter's declarator in parentheses whose first token is an identifier begins with this name.
 use Rattle.std.proofs.Common.{ℕ, zero, suc, ◌+◌, ◌≡◌, Bool, true, false, ◌&&◌, not, if◌then◌else◌, List, [], ◌∷◌, length, Ok, Err, nat_lt, refl, sym, ap, ◌∙◌}
 use Rattle.std.proofs.lemmas.Bool.{not-true}
+use Rattle.c99_grammar.specs.declared.dialects.Dialect.TheVariants.{Iso}
 use Rattle.c99_grammar.specs.declared.dialects.Edition.{Edition}
 use Rattle.c99_tree.specs.Tree.{Forest, none, token, node, Node, Part, leaf, inner, put, lone}
 use Rattle.c99_tree.specs.declared.production.Label.{Label}
@@ -124,7 +125,7 @@ module _ (std : Edition) where
       → Q (class_at (iso std) s k) ≡ true
   unfolding class_at
   either_class Q i t s k h =
-      by (base_at (iso std) s.toks k) (is_identifier (base_at (iso std) s.toks k) && is_typedef_at s.toks s.names.scopes k) (base_is std s.toks k h)
+      by (base_at (iso std) s.toks k) (is_identifier (base_at (iso std) s.toks k) && is_typedef_at s.toks s.names.scopes k) (base_is (Iso std) s.toks k h)
     where
       by : (b : Class) (c : Bool) → b ≡ identifier → Q (if c then typedef_name else b) ≡ true
       by b true e = t

@@ -1,6 +1,7 @@
 -- Tokens whose kind is asked: primary expressions, type names, and names in an identifier list.
 use Rattle.std.proofs.Common.{ℕ, ◌+◌, ◌<◌, ◌≡◌, Bool, true, false, ◌&&◌, ◌||◌, not, if◌then◌else◌, ◌==◌, ◌%◌, List, length, Ok, Err, refl, sym, ap, subst, ◌∙◌, arith}
 use Rattle.std.proofs.lemmas.Bool.{false≢true, and_from}
+use Rattle.c99_grammar.specs.declared.dialects.Dialect.TheVariants.{Iso}
 use Rattle.c99_grammar.specs.declared.dialects.Edition.{Edition}
 use Rattle.cs_base.specs.Token.{Token}
 use Rattle.c99_tree.specs.Tree.{count_of}
@@ -56,7 +57,7 @@ module _ (std : Edition) where
   unfolding class_at
   comma_is s k e =
       comma_case _ (base_at (iso std) s.toks k) (is_identifier (base_at (iso std) s.toks k)) (is_typedef_at s.toks s.names.scopes k)
-      (λ h. refuted _ _ (base_so std (λ c. not (among comma c) || not (is_identifier c)) refl s.toks k) h) refl e
+      (λ h. refuted _ _ (base_so (Iso std) (λ c. not (among comma c) || not (is_identifier c)) refl s.toks k) h) refl e
 
   module _ (a b : List Token) where
     module _ (l : Label) (s : State) where
@@ -67,8 +68,8 @@ module _ (std : Edition) where
           (same_typedef std) b s.at s.at s.names.scopes ends (outlined s.built.under o).entries (omega arith)
           (bounds_within (s.at + 1) o.scope.to s.names.scopes ends bounds) f.matches
 
-    kind_in : (l : Label) (first : ℕ) (s : State) → IsIn l first s → of_token std a b s ≡ is_kind_so std b l.production l.alternative s.names.scopes s.at
-    kind_in l first s i = ap (λ (m : Label). is_kind_so std b m.production m.alternative s.names.scopes s.at) i.label
+    kind_in : (l : Label) (first : ℕ) (s : State) → IsIn l first s → of_token std a b s ≡ is_kind_so (Iso std) b l.production l.alternative s.names.scopes s.at
+    kind_in l first s i = ap (λ (m : Label). is_kind_so (Iso std) b m.production m.alternative s.names.scopes s.at) i.label
 
     -- ---- Primary expressions (6.5.1)
 

@@ -1,10 +1,10 @@
 -- What is known of the next token, as facts of the two lists.
 use Rattle.std.proofs.Common.{ℕ, ◌+◌, ◌≡◌, ◌⊎◌, Bool, true, false, if◌then◌else◌, List, refl, sym, ap, ◌∙◌, inl}
 use Rattle.std.proofs.lemmas.Bool.{false≢true}
-use Rattle.c99_grammar.specs.declared.dialects.Edition.{Edition}
+use Rattle.c99_grammar.specs.declared.dialects.Dialect.{Dialect}
 use Rattle.cs_base.specs.Token.{Token}
 use Rattle.c99_grammar.specs.Classes.{among}
-use Rattle.c99_grammar.specs.Standard.{iso}
+use Rattle.c99_grammar.specs.Standard.{grammar}
 use Rattle.c99_read.specs.State.{base_at, is_identifier}
 use Rattle.renamed_tree_laws.specs.Respelled.{Declaration}
 use Rattle.renamed_tree_laws.proofs.Private.{identifier, colons}
@@ -30,15 +30,15 @@ at_most solid label h = absurd (false≢true (sym h))
 at_most solid calm h = absurd (false≢true (sym h))
 at_most solid solid h = absurd (false≢true (sym h))
 
-module _ (std : Edition) where
+module _ (std : Dialect) where
   module _ (a b : List Token) (scopes : List (List Declaration)) (k : ℕ) where
     abbrev pub Known : Mood → Type 0
     Known any = Unit {0}
-    Known label = Same std a b scopes k ⊎ (among colons (base_at (iso std) a (k + 1)) ≡ true)
+    Known label = Same std a b scopes k ⊎ (among colons (base_at (grammar std) a (k + 1)) ≡ true)
     Known calm = Same std a b scopes k
-    Known solid = is_identifier (base_at (iso std) a k) ≡ false
+    Known solid = is_identifier (base_at (grammar std) a k) ≡ false
 
-    pub no_name : is_identifier (base_at (iso std) a k) ≡ false → Same std a b scopes k
+    pub no_name : is_identifier (base_at (grammar std) a k) ≡ false → Same std a b scopes k
     no_name h = λ e. absurd (false≢true (sym h ∙ e))
 
     pub known_less : (m n : Mood) → at_least m n ≡ true → Known m → Known n
@@ -78,9 +78,9 @@ module _ (std : Edition) where
         by false = h'
 
   -- a colon is no identifier
-  pub colon_is : (toks : List Token) (k : ℕ) → among colons (base_at (iso std) toks k) ≡ true → is_identifier (base_at (iso std) toks k) ≡ false
-  colon_is toks k h = by (is_identifier (base_at (iso std) toks k)) (base_is std toks k)
+  pub colon_is : (toks : List Token) (k : ℕ) → among colons (base_at (grammar std) toks k) ≡ true → is_identifier (base_at (grammar std) toks k) ≡ false
+  colon_is toks k h = by (is_identifier (base_at (grammar std) toks k)) (base_is std toks k)
     where
-      by : (i : Bool) → (i ≡ true → base_at (iso std) toks k ≡ identifier) → i ≡ false
+      by : (i : Bool) → (i ≡ true → base_at (grammar std) toks k ≡ identifier) → i ≡ false
       by true f = absurd (false≢true (sym (ap (among colons) (f refl)) ∙ h))
       by false f = refl

@@ -8,6 +8,7 @@ pub mod BareNames
 pub mod Enclosing
 -- What the proofs of this crate rest on.
 mod Twins
+mod Could
 mod Moods
 mod Table
 mod Knowing

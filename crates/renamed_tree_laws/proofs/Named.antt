@@ -1,14 +1,14 @@
 -- The names that the reader declares are identifiers.
 use Rattle.std.proofs.Common.{ℕ, zero, suc, ◌-◌, ◌≡◌, Bool, true, false, ◌||◌, not, if◌then◌else◌, ◌==◌, List, [], ◌∷◌, ◌++◌, length, take, slice_get, Option, None, Some, unwrap_or, refl, sym, ap, subst, ◌∙◌}
 use Rattle.std.specs.Option.{option_map_or}
-use Rattle.c99_grammar.specs.declared.dialects.Edition.{Edition}
+use Rattle.c99_grammar.specs.declared.dialects.Dialect.{Dialect}
 use Rattle.cs_base.specs.Token.{Token}
 use Rattle.c99_tree.specs.Tree.{Forest, none, token, node, Node, leaf, inner, put, lone, collapsed}
 use Rattle.c99_tree.specs.declared.production.Label.{Label}
 use Rattle.c99_tree.specs.declared.production.Production.{Production}
 use Rattle.c99_grammar.specs.Classes.{among}
 use Rattle.c99_grammar.specs.Items.{Action, scope, end, declare, name, keep, again}
-use Rattle.c99_grammar.specs.Standard.{iso}
+use Rattle.c99_grammar.specs.Standard.{grammar}
 use Rattle.c99_read.specs.State.{State, Names, Head, base_at, is_identifier, class_at, is_declaring, has_name, name_below, last_declared, last_identifier, declaration, in_innermost, with_declared, with_scope_ended, given_names, acted, is_declarator, collapses, with_head, head_closed, names_opened, names_closed, finished, opened, closed}
 use Rattle.renamed_tree_laws.specs.Respelled.{Declaration}
 use Rattle.renamed_tree_laws.proofs.Private.{Class, covers}
@@ -17,10 +17,10 @@ use Rattle.renamed_tree_laws.proofs.Moods.{named_where}
 use Rattle.renamed_tree_laws.proofs.Steps.{with_token}
 use Rattle.renamed_tree_laws.proofs.Keeping.{Kept}
 
-module _ (std : Edition) where
+module _ (std : Dialect) where
   module _ (toks : List Token) where
     abbrev pub Is : ℕ → Type 0
-    Is k = is_identifier (base_at (iso std) toks k) ≡ true
+    Is k = is_identifier (base_at (grammar std) toks k) ≡ true
 
     abbrev pub IsName : Option ℕ → Type 0
     IsName None = Unit {0}
@@ -110,11 +110,11 @@ module _ (std : Edition) where
     last_is (node l first under (token i rest)) k = last_is (token i rest) k.1
     last_is (node l first under (node m second below rest)) k = last_is (node m second below rest) k.1
 
-    identifier_is : (f : Forest) (found : Option ℕ) → IsName found → IsName (last_identifier (iso std) toks f found)
+    identifier_is : (f : Forest) (found : Option ℕ) → IsName found → IsName (last_identifier (grammar std) toks f found)
     identifier_is none found h = h
-    identifier_is (token i rest) found h = identifier_is rest _ (by (is_identifier (base_at (iso std) toks i)) refl)
+    identifier_is (token i rest) found h = identifier_is rest _ (by (is_identifier (base_at (grammar std) toks i)) refl)
       where
-        by : (c : Bool) → is_identifier (base_at (iso std) toks i) ≡ c → IsName (if c then Some i else found)
+        by : (c : Bool) → is_identifier (base_at (grammar std) toks i) ≡ c → IsName (if c then Some i else found)
         by true e = e
         by false e = h
     identifier_is (node l first under rest) found h = identifier_is rest found h
@@ -197,7 +197,7 @@ module _ (std : Edition) where
 
     -- ---- Steps
 
-    good_token : (L : List Class) (s : State) → s.toks ≡ toks → named_where (has_name s.built.label) L ≡ true → among L (class_at (iso std) s s.at) ≡ true
+    good_token : (L : List Class) (s : State) → s.toks ≡ toks → named_where (has_name s.built.label) L ≡ true → among L (class_at (grammar std) s s.at) ≡ true
         → Good s → Good (with_token s)
     good_token L s of_toks h e g = record {
       names = g.names;
@@ -205,11 +205,11 @@ module _ (std : Edition) where
         kids = kids_leaf s.built.under s.at g.built.kids;
         own = λ m. (
             let c : covers (λ d. not (among L d) || is_identifier d) ≡ true = subst (λ x. named_where x L ≡ true) m h in
-            tokens_leaf s.built.under s.at (g.built.own m) (ap (λ t. is_identifier (base_at (iso std) t s.at)) (sym of_toks) ∙ name_is std s s.at L c e));
+            tokens_leaf s.built.under s.at (g.built.own m) (ap (λ t. is_identifier (base_at (grammar std) t s.at)) (sym of_toks) ∙ name_is std s s.at L c e));
       };
     }
 
-    good_acted : (action : Action) (s : State) → s.toks ≡ toks → Good s → Good (acted (iso std) action s)
+    good_acted : (action : Action) (s : State) → s.toks ≡ toks → Good s → Good (acted (grammar std) action s)
     unfolding acted
     good_acted scope s of_toks g = record {
       names = record { scopes = (tt, g.names.scopes); ended = g.names.ended; heads = g.names.heads; kept = g.names.kept };
@@ -221,8 +221,8 @@ module _ (std : Edition) where
       built = g.built;
     }
     good_acted name s of_toks g = record {
-      names = good_declared s.names (last_identifier (iso std) s.toks s.built.under None) false
-          (subst (λ t. IsName (last_identifier (iso std) t s.built.under None)) (sym of_toks) (identifier_is s.built.under None tt)) g.names;
+      names = good_declared s.names (last_identifier (grammar std) s.toks s.built.under None) false
+          (subst (λ t. IsName (last_identifier (grammar std) t s.built.under None)) (sym of_toks) (identifier_is s.built.under None tt)) g.names;
       built = g.built;
     }
     good_acted keep s of_toks g = record {

@@ -2,10 +2,10 @@
 use Rattle.std.proofs.Common.{Bool, ◌&&◌, List, [], ◌∷◌, drop}
 use Rattle.std.specs.List.{list_all}
 use Rattle.cs_base.specs.declared.tokens.Kind.TheVariants as kind
-use Rattle.c99_tree.specs.declared.production.Production.TheVariants.{Statement, Pdirect}
-use Rattle.c99_grammar.specs.declared.dialects.Edition.TheVariants.{C11}
+use Rattle.c99_tree.specs.declared.production.Production.TheVariants.{Statement}
+use Rattle.c99_grammar.specs.declared.classes.Class.TheVariants.{LeftParen, ExtensionWord}
 use Rattle.c99_grammar.specs.Items.{names, Test, own, next_two, Ask, is, Alternative}
-use Rattle.c99_grammar.specs.Spellings.{keywords_of, punctuators}
+use Rattle.c99_grammar.specs.Spellings.{gnu_keywords, punctuators}
 use Rattle.c99_grammar.specs.Standard.{c99}
 use Rattle.c99_read.specs.State.{base_at}
 use Rattle.c99_grammar.specs.TokenClasses.{base_class, class_of_kind}
@@ -36,10 +36,6 @@ abbrev asked : Ask → List Class
 asked (is classes) = classes
 asked _ = []
 
-abbrev asked_first : Test → List Class
-asked_first (next_two a b) = asked a
-asked_first _ = []
-
 abbrev asked_second : Test → List Class
 asked_second (next_two a b) = asked b
 asked_second _ = []
@@ -48,10 +44,6 @@ abbrev first_test : List Alternative → Test
 first_test (a ∷ more) = a.test
 first_test [] = own
 
-abbrev second_test : List Alternative → Test
-second_test (a ∷ (b ∷ more)) = b.test
-second_test _ = own
-
 -- the colon behind a label
 abbrev pub colons : List Class
 colons = asked_second (first_test (c99.table Statement))
@@ -59,12 +51,12 @@ colons = asked_second (first_test (c99.table Statement))
 abbrev pub colon : Class
 colon = first_class colons
 
--- the parenthesis of a parameter's declarator
-abbrev pub parens : List Class
-parens = asked_first (second_test (c99.table Pdirect))
+-- behind these the second token of a production is asked for: a parenthesis, and `__extension__` of GNU C
+abbrev pub fronts : List Class
+fronts = LeftParen ∷ ExtensionWord ∷ []
 
 -- it is so of each class that tokens have by themselves
 abbrev pub covers : (Class → Bool) → Bool
 covers P =
-    list_all (λ w. P w.1) (keywords_of C11) && (list_all (λ w. P w.1) punctuators && (P identifier && (P no_class && (P end_class &&
+    list_all (λ w. P w.1) gnu_keywords && (list_all (λ w. P w.1) punctuators && (P identifier && (P no_class && (P end_class &&
     (P (class_of_kind c99 kind.Number []) && (P (class_of_kind c99 kind.Char []) && P (class_of_kind c99 kind.Str [])))))))

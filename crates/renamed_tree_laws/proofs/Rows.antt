@@ -1,6 +1,7 @@
 -- What is asked of short texts.
 use Rattle.std.proofs.Common.{ℕ, ◌≡◌, Bool, true, false, List, [], ◌∷◌, refl}
 use Rattle.std.specs.Prelude.{codes}
+use Rattle.c99_grammar.specs.declared.dialects.Dialect.TheVariants.{Iso}
 use Rattle.c99_grammar.specs.declared.dialects.Edition.TheVariants.{C99}
 use Rattle.cs_base.specs.Token.{Token}
 use Rattle.cs_base.specs.declared.tokens.Kind.TheVariants.{Ident, Punct}
@@ -39,8 +40,8 @@ old_style name label use_ =
 
 abbrev names_so : List Token → List Token → Bool
 names_so a b =
-    all_along (iso C99) (λ s. is_token_so C99 a b s.built.label.production s.built.label.alternative s.names.scopes s.at)
-    (λ p n s. is_node_so C99 b p n s.names.scopes s.at) a
+    all_along (iso C99) (λ s. is_token_so (Iso C99) a b s.built.label.production s.built.label.alternative s.names.scopes s.at)
+    (λ p n s. is_node_so (Iso C99) b p n s.names.scopes s.at) a
 
 -- the member is another name; the use is not
 pub members-apart : names_so (members (codes "T") (codes "T") (codes "T")) (members (codes "T") (codes "U") (codes "U")) ≡ true
@@ -77,8 +78,8 @@ list-taken = refl
 -- the same, asked by kinds alone
 abbrev kinds_so : List Token → List Token → Bool
 kinds_so a b =
-    all_along (iso C99) (λ s. is_kind_so C99 b s.built.label.production s.built.label.alternative s.names.scopes s.at)
-    (λ p n s. is_node_so C99 b p n s.names.scopes s.at) a
+    all_along (iso C99) (λ s. is_kind_so (Iso C99) b s.built.label.production s.built.label.alternative s.names.scopes s.at)
+    (λ p n s. is_node_so (Iso C99) b p n s.names.scopes s.at) a
 
 pub members-apart-kinds : kinds_so (members (codes "T") (codes "T") (codes "T")) (members (codes "T") (codes "U") (codes "U")) ≡ true
 unfolding along_within read_within take_one at_end enter spelled_class base_class class_at acted opened closed

@@ -1,12 +1,12 @@
 -- What is so of a step of reading that does not stop.
 use Rattle.std.proofs.Common.{ℕ, ◌+◌, ◌≡◌, Bool, true, false, ◌&&◌, if◌then◌else◌, List, length, Ok, Err, nat_lt, ◌==◌, eqb-true, refl, sym, ap, ◌∙◌}
 use Rattle.std.proofs.lemmas.Bool.{false≢true}
-use Rattle.c99_grammar.specs.declared.dialects.Edition.{Edition}
+use Rattle.c99_grammar.specs.declared.dialects.Dialect.{Dialect}
 use Rattle.cs_base.specs.Token.{Token}
 use Rattle.c99_tree.specs.Tree.{leaf, put}
 use Rattle.c99_tree.specs.declared.production.Production.{Production}
 use Rattle.c99_grammar.specs.Classes.{among}
-use Rattle.c99_grammar.specs.Standard.{iso}
+use Rattle.c99_grammar.specs.Standard.{grammar}
 use Rattle.c99_read.specs.State.{State, Names, base_at, is_identifier, is_typedef_at, class_at, is_declarator, with_head, head_closed, names_opened, names_closed, opened, closed}
 use Rattle.c99_read.specs.Reading.{Stop, syntax, too_deep, Step, and_then, take_one, at_end, enter}
 use Rattle.renamed_tree_laws.specs.Respelled.{Declaration}
@@ -128,30 +128,30 @@ pub closed_at : (p : Production) (outer s : State) → (closed p outer s).at ≡
 unfolding closed
 closed_at p outer s = refl
 
-module _ (std : Edition) where
+module _ (std : Dialect) where
   pub record Takes (L : List Class) (s s' : State) : Type 0 where
     pub within : nat_lt s.at (length s.toks) ≡ true
-    pub here : among L (class_at (iso std) s s.at) ≡ true
+    pub here : among L (class_at (grammar std) s s.at) ≡ true
     pub new : with_token s ≡ s'
 
-  pub takes : (L : List Class) (s s' : State) → take_one (iso std) L s ≡ Ok s' → Takes L s s'
+  pub takes : (L : List Class) (s s' : State) → take_one (grammar std) L s ≡ Ok s' → Takes L s s'
   unfolding take_one
-  takes L s s' e = by (nat_lt s.at (length s.toks)) (among L (class_at (iso std) s s.at)) refl refl e
+  takes L s s' e = by (nat_lt s.at (length s.toks)) (among L (class_at (grammar std) s s.at)) refl refl e
     where
-      by : (c d : Bool) → nat_lt s.at (length s.toks) ≡ c → among L (class_at (iso std) s s.at) ≡ d
+      by : (c d : Bool) → nat_lt s.at (length s.toks) ≡ c → among L (class_at (grammar std) s s.at) ≡ d
           → (if c && d then Ok (with_token s) else Err (syntax s.at)) ≡ Ok s' → Takes L s s'
       by true true h k m = record { within = h; here = k; new = ok_is _ _ m }
       by true false h k m = absurd (stopped _ _ m)
       by false d h k m = absurd (stopped _ _ m)
 
   class_in : List Token → List (List Declaration) → ℕ → Class
-  class_in toks scopes k = if is_identifier (base_at (iso std) toks k) && is_typedef_at toks scopes k then typedef_name else base_at (iso std) toks k
+  class_in toks scopes k = if is_identifier (base_at (grammar std) toks k) && is_typedef_at toks scopes k then typedef_name else base_at (grammar std) toks k
 
-  class_is : (s : State) (k : ℕ) → class_at (iso std) s k ≡ class_in s.toks s.names.scopes k
+  class_is : (s : State) (k : ℕ) → class_at (grammar std) s k ≡ class_in s.toks s.names.scopes k
   unfolding class_at class_in
   class_is s k = refl
 
-  pub opened_class : (p : Production) (n : ℕ) (s : State) (k : ℕ) → class_at (iso std) (opened p n s) k ≡ class_at (iso std) s k
+  pub opened_class : (p : Production) (n : ℕ) (s : State) (k : ℕ) → class_at (grammar std) (opened p n s) k ≡ class_at (grammar std) s k
   opened_class p n s k =
       class_is (opened p n s) k
       ∙ (ap (λ t. class_in t (opened p n s).names.scopes k) (opened_toks p n s)

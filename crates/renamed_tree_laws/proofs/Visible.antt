@@ -3,19 +3,19 @@ use Rattle.std.proofs.Common.{ℕ, ◌≡◌, Bool, true, false, if◌then◌els
 use Rattle.std.specs.Option.{option_map_or}
 use Rattle.std.specs.Str.{bytes_eq}
 use Rattle.std.proofs.lemmas.Bool.{false≢true}
-use Rattle.c99_grammar.specs.declared.dialects.Edition.{Edition}
+use Rattle.c99_grammar.specs.declared.dialects.Dialect.{Dialect}
 use Rattle.cs_base.specs.Token.{Token}
 use Rattle.c99_tree.specs.Names.{latest}
-use Rattle.c99_grammar.specs.Standard.{iso}
+use Rattle.c99_grammar.specs.Standard.{grammar}
 use Rattle.c99_read.specs.State.{base_at, is_identifier, is_typedef_at, spelling_at, spelled_scope}
 use Rattle.renamed_tree_laws.specs.Respelled.{Declaration, declared_in, or_outer, denoted}
 use Rattle.renamed_tree_laws.proofs.Named.{AllIn, AllScopes}
 
-module _ (std : Edition) where
+module _ (std : Dialect) where
   module _ (a b : List Token)
-      (apart : (i j : ℕ) → is_identifier (base_at (iso std) a i) ≡ true → is_identifier (base_at (iso std) a j) ≡ true
+      (apart : (i j : ℕ) → is_identifier (base_at (grammar std) a i) ≡ true → is_identifier (base_at (grammar std) a j) ≡ true
       → bytes_eq (spelling_at b i) (spelling_at b j) ≡ true → bytes_eq (spelling_at a i) (spelling_at a j) ≡ true)
-      (k : ℕ) (is_name : is_identifier (base_at (iso std) a k) ≡ true) where
+      (k : ℕ) (is_name : is_identifier (base_at (grammar std) a k) ≡ true) where
     abbrev with_it : Option Declaration → Bool
     with_it d = option_map_or (λ d. bytes_eq (spelling_at b k) (spelling_at b d.name_at)) d true
 

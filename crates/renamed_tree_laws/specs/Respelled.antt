@@ -2,11 +2,11 @@
 use Rattle.std.specs.Prelude.{ℕ, ◌+◌, ◌≡◌, ◌||◌, Bool, true, not, List, [], ◌∷◌, Option, None, Some, length, if◌then◌else◌, ◌==◌}
 use Rattle.std.specs.Option.{option_map_or}
 use Rattle.std.specs.Str.{bytes_eq}
-use Rattle.c99_grammar.specs.declared.dialects.Edition.{Edition}
+use Rattle.c99_grammar.specs.declared.dialects.Dialect.{Dialect}
 use Rattle.cs_base.specs.Token.{Token}
 use Rattle.c99_tree.specs.declared.production.Production.{Production}
 use Rattle.c99_tree.specs.declared.production.Production.TheVariants.{Main, Primary, Params, Pdirect}
-use Rattle.c99_grammar.specs.Standard.{iso}
+use Rattle.c99_grammar.specs.Standard.{grammar}
 use Rattle.c99_read.specs.State.{declaration, base_at, spelling_at, is_identifier, is_typedef_at}
 use Rattle.renamed_tree_laws.specs.Along.{all_along}
 
@@ -31,14 +31,14 @@ abbrev pub denoted : List Token → List (List Declaration) → ℕ → Option D
 denoted toks [] k = None
 denoted toks (scope ∷ outer) k = or_outer (declared_in toks scope k) (denoted toks outer k)
 
-module _ (std : Edition) where
+module _ (std : Dialect) where
   -- What is asked of a name in these scopes, so that it is read as the same kind of name: a type name is a typedef name
   -- (6.7.2 paragraph 2); a primary expression is none (6.5.1 paragraph 2), and a name in an identifier list is none before
   -- it is declared there (6.7.5.3 paragraph 3).
   module _ (toks : List Token) where
     -- token k, where it is an identifier, is no typedef name
     abbrev pub is_bare_so : List (List Declaration) → ℕ → Bool
-    is_bare_so scopes k = not (is_identifier (base_at (iso std) toks k)) || not (is_typedef_at toks scopes k)
+    is_bare_so scopes k = not (is_identifier (base_at (grammar std) toks k)) || not (is_typedef_at toks scopes k)
 
     abbrev pub is_kind_so : Production → ℕ → List (List Declaration) → ℕ → Bool
     is_kind_so Main n scopes k = if n == 4 then is_typedef_at toks scopes k else true
@@ -57,8 +57,8 @@ module _ (std : Edition) where
     -- second one are of the kinds that are read.
     pub record IsReadSo : Type 0 where
       pub as_long : length a ≡ length b
-      pub classes : (k : ℕ) → base_at (iso std) a k ≡ base_at (iso std) b k
-      pub kinds : all_along (iso std) (λ s. is_kind_so b s.built.label.production s.built.label.alternative s.names.scopes s.at)
+      pub classes : (k : ℕ) → base_at (grammar std) a k ≡ base_at (grammar std) b k
+      pub kinds : all_along (grammar std) (λ s. is_kind_so b s.built.label.production s.built.label.alternative s.names.scopes s.at)
           (λ p n s. is_node_so b p n s.names.scopes s.at) a ≡ true
 
     -- token k, and the token that declared what it denotes, are spelled alike anew
@@ -77,8 +77,8 @@ module _ (std : Edition) where
     -- and, along the reading of the first list, names name what they named.
     pub record IsRespelled : Type 0 where
       pub as_long : length a ≡ length b
-      pub classes : (k : ℕ) → base_at (iso std) a k ≡ base_at (iso std) b k
-      pub apart : (i j : ℕ) → is_identifier (base_at (iso std) a i) ≡ true → is_identifier (base_at (iso std) a j) ≡ true
+      pub classes : (k : ℕ) → base_at (grammar std) a k ≡ base_at (grammar std) b k
+      pub apart : (i j : ℕ) → is_identifier (base_at (grammar std) a i) ≡ true → is_identifier (base_at (grammar std) a j) ≡ true
           → bytes_eq (spelling_at b i) (spelling_at b j) ≡ true → bytes_eq (spelling_at a i) (spelling_at a j) ≡ true
-      pub names : all_along (iso std) (λ s. is_token_so s.built.label.production s.built.label.alternative s.names.scopes s.at)
+      pub names : all_along (grammar std) (λ s. is_token_so s.built.label.production s.built.label.alternative s.names.scopes s.at)
           (λ p n s. is_node_so b p n s.names.scopes s.at) a ≡ true

@@ -3,6 +3,7 @@ use Rattle.std.proofs.Common.{ℕ, suc, ◌+◌, ◌≤◌, ◌≡◌, Bool, tru
 use Rattle.std.specs.List.{list_all}
 use Rattle.std.proofs.lemmas.Bool.{false≢true, and_parts, and_from}
 use Rattle.std.proofs.lemmas.List.{append_assoc}
+use Rattle.c99_grammar.specs.declared.dialects.Dialect.TheVariants.{Iso}
 use Rattle.c99_grammar.specs.declared.dialects.Edition.{Edition}
 use Rattle.c99_tree.specs.Tree.{Forest, none, token}
 use Rattle.c99_tree.specs.declared.production.Production.{Production}
@@ -157,8 +158,8 @@ module _ (s : Edition) (class_of : ℕ → Class) (order : List ℕ) (lists : �
         let frees = and_parts (tests_free g a) (tests_free g b) k in
         let m = between (item_read fuel depth a xs) (item_read fuel depth b) t e in
         let parts = full-joined order lists false m.first.read m.second.read (subst (λ (w : Taken). AreFull order lists false w.read) (sym m.whole) full) in
-        let text = item_text g ending (tells s) class_of fuel depth a xs m.first m.reads in
-        let text' = item_text g ending (tells s) class_of fuel depth b m.first.left m.second m.more in
+        let text = item_text g ending (tells (Iso s)) class_of fuel depth a xs m.first m.reads in
+        let text' = item_text g ending (tells (Iso s)) class_of fuel depth b m.first.left m.second m.more in
         anew_then (item_front a) (item_front b) (item_front (a · b)) (closes g ending a ≡ true) (closes g ending b ≡ true) (closes g ending (a · b) ≡ true)
         (λ n ys. item_read n depth a ys) (λ n ys. item_read n depth b ys) t m.first m.second m.whole text'.0
         (first_front (has_token a) (item_front a) (item_front b)) (second_front (has_token a) (item_front a) (item_front b) (tokens_of m.first.read) text.1)
@@ -171,7 +172,7 @@ module _ (s : Edition) (class_of : ℕ → Class) (order : List ℕ) (lists : �
         let asked = and_parts (free g a && free g b) (tests_free g a && tests_free g b) k in
         let frees = and_parts (free g a) (free g b) asked.0 in
         let tests = and_parts (tests_free g a) (tests_free g b) asked.1 in
-        let text = item_text g ending (tells s) class_of fuel depth (choice a b) xs t e in
+        let text = item_text g ending (tells (Iso s)) class_of fuel depth (choice a b) xs t e in
         let c_all : Type 0 = closes g ending (choice a b) ≡ true in
         let no_a : c_all → never g own a ≡ true = λ y. (and_parts (never g own a) (never g own b && (closes g ending a && closes g ending b)) y).0 in
         let rest : c_all → (never g own b && (closes g ending a && closes g ending b)) ≡ true
@@ -211,7 +212,7 @@ module _ (s : Edition) (class_of : ℕ → Class) (order : List ℕ) (lists : �
         let less_a : c_all → closes g ending a ≡ true = λ y. (and_parts (never g own a) (closes g ending a) y).1 in
         branch {P = Item_so (maybe a) depth t} (may_read g class_of own a xs) (item_read fuel depth a xs) (Some (taken none xs)) t
         (λ c e'.
-        let text = item_text g ending (tells s) class_of fuel depth a xs t e' in
+        let text = item_text g ending (tells (Iso s)) class_of fuel depth a xs t e' in
         let r = anew_item a depth xs t h frees.1 full e' in
         record {
           near = r.near;
@@ -231,10 +232,10 @@ module _ (s : Edition) (class_of : ℕ → Class) (order : List ℕ) (lists : �
         let less_a : c_all → closes g ending a ≡ true = λ y. (and_parts (never g q a) (closes g ending a) y).1 in
         branch {P = Item_so (many q a) depth t} (may_read g class_of q a xs) (then_read (item_read fuel depth a xs) (reads fuel depth (repeat q a))) (Some (taken none xs)) t
         (λ c e'.
-        let text = item_text g ending (tells s) class_of fuel depth (many q a) xs t e in
+        let text = item_text g ending (tells (Iso s)) class_of fuel depth (many q a) xs t e in
         let m = between (item_read fuel depth a xs) (reads fuel depth (repeat q a)) t e' in
         let parts = full-joined order lists false m.first.read m.second.read (subst (λ (w : Taken). AreFull order lists false w.read) (sym m.whole) full) in
-        let behind = goal_text g ending (tells s) class_of fuel depth (repeat q a) m.first.left m.second m.more in
+        let behind = goal_text g ending (tells (Iso s)) class_of fuel depth (repeat q a) m.first.left m.second m.more in
         let r = anew_then (item_front a) (item_front a) (item_front a) (closes g ending a ≡ true) c_all c_all
         (λ n ys. item_read n depth a ys) (λ n ys. reads n depth (repeat q a) ys) t m.first m.second m.whole behind.0
         (most_itself (item_front a)) (λ x. most_itself (item_front a)) (λ y. y) (λ x y. less_a y)
@@ -258,7 +259,7 @@ module _ (s : Edition) (class_of : ℕ → Class) (order : List ℕ) (lists : �
         let less_a : c_all → closes g ending a ≡ true = λ y. (and_parts (never g own a) (closes g ending a) y).1 in
         branch {P = Item_so (deep a) depth t} (may_read g class_of own a xs && nat_lt depth deepest) (item_read fuel (depth + 1) a xs) None t
         (λ c e'.
-        let text = item_text g ending (tells s) class_of fuel (depth + 1) a xs t e' in
+        let text = item_text g ending (tells (Iso s)) class_of fuel (depth + 1) a xs t e' in
         let r = anew_item a (depth + 1) xs t h frees.1 full e' in
         record {
           near = r.near;

@@ -2,6 +2,7 @@
 use Rattle.std.proofs.Common.{ℕ, ◌+◌, ◌≡◌, Bool, true, false, ◌&&◌, List, [], ◌∷◌, ◌++◌, length, Option, None, Some, nat_lt, refl, sym, ap, subst, ◌∙◌, inl, inr}
 use Rattle.std.proofs.lemmas.Bool.{false≢true, and_parts}
 use Rattle.std.proofs.lemmas.List.{append_assoc, append-nil}
+use Rattle.c99_grammar.specs.declared.dialects.Dialect.TheVariants.{Iso}
 use Rattle.c99_grammar.specs.declared.dialects.Edition.{Edition}
 use Rattle.c99_tree.specs.Tree.{Forest, none, node}
 use Rattle.c99_tree.specs.declared.production.Production.{Production}
@@ -76,7 +77,7 @@ module _ (s : Edition) (class_of : ℕ → Class) (order : List ℕ) (lists : �
   abbrev anew_so : Front → Type 0 → (ℕ → List ℕ → Option Taken) → Taken → Type 0
   anew_so f e again t = Anew s class_of order lists f e again t
 
-  list_same : (fuel depth : ℕ) (xs : List ℕ) → item_read fuel depth parameter_list xs ≡ item_read fuel depth (enclosing s class_of Params) xs
+  list_same : (fuel depth : ℕ) (xs : List ℕ) → item_read fuel depth parameter_list xs ≡ item_read fuel depth (enclosing (Iso s) class_of Params) xs
   list_same fuel depth xs =
       then_same (read_one g class_of (LeftParen ∷ []) xs) (item_read fuel depth (act scope · maybe (deep (part Params)) · act end · act keep · tok RightParen))
       (item_read fuel depth (maybe (deep (part Params)) · tok RightParen))
@@ -87,7 +88,7 @@ module _ (s : Edition) (class_of : ℕ → Class) (order : List ℕ) (lists : �
   -- ---- A list of arguments or parameters
 
   module _ (q : Production) (k : ℕ) (plain : is_parenthesised (labelled q k) ≡ false) (ordered : Ordered s class_of order is_order q k) where
-    module _ (fuel depth : ℕ) (u : Taken) (c : Enclosed s class_of q fuel depth u) (f : Forest) (is : c.list.read ≡ a_list q k f) (full : IsFull order lists f)
+    module _ (fuel depth : ℕ) (u : Taken) (c : Enclosed (Iso s) class_of q fuel depth u) (f : Forest) (is : c.list.read ≡ a_list q k f) (full : IsFull order lists f)
         (inner : anew_so shut (ending q ≡ true) (λ m ys. reads m (depth + 1) (produce q) ys) c.list) where
       abbrev inside_it : Forest
       inside_it = shuffled order (renew f)
@@ -106,10 +107,10 @@ module _ (s : Edition) (class_of : ℕ → Class) (order : List ℕ) (lists : �
 
       -- .. in its parentheses
       enclosed_goes : nat_lt depth deepest ≡ true → (e : Type 0) (zs : List ℕ) → Beside g class_of e u.left zs
-          → Sometime (λ m. item_read m depth (enclosing s class_of q) (c.opening ∷ (tokens_of inside_it ++ (c.closing ∷ zs)))) (taken (enclosed c.opening (a_list q k inside_it) c.closing) zs)
+          → Sometime (λ m. item_read m depth (enclosing (Iso s) class_of q) (c.opening ∷ (tokens_of inside_it ++ (c.closing ∷ zs)))) (taken (enclosed c.opening (a_list q k inside_it) c.closing) zs)
       enclosed_goes less e zs b =
           let o = list_read e zs b in
-          (o.0, enclosed_read s class_of q o.0 depth c.opening c.closing (a_list q k inside_it) (tokens_of inside_it) zs c.is_open c.is_close less o.1)
+          (o.0, enclosed_read (Iso s) class_of q o.0 depth c.opening c.closing (a_list q k inside_it) (tokens_of inside_it) zs c.is_open c.is_close less o.1)
 
   -- the children of a list that becomes a new one
   module _ (o c : ℕ) (q : Production) (k : ℕ) (f h : Forest) where
@@ -127,7 +128,7 @@ module _ (s : Edition) (class_of : ℕ → Class) (order : List ℕ) (lists : �
   -- ---- Calls
 
   abbrev call : Item
-  call = enclosing s class_of Args
+  call = enclosing (Iso s) class_of Args
 
   module _ (fuel : ℕ) (goods : Goods s class_of order lists fuel) (depth : ℕ) (xs : List ℕ) (u : Taken) where
     abbrev Call_so : Type 0
@@ -138,7 +139,7 @@ module _ (s : Edition) (class_of : ℕ → Class) (order : List ℕ) (lists : �
     call_still same full e = child_itself s class_of order lists fuel goods Post 2 call depth xs u refl refl refl full same e
 
     -- the arguments change places
-    call_anew : is_among lists (labelled Post 2) u.read ≡ true → (c : Enclosed s class_of Args fuel depth u) (f : Forest) → c.list.read ≡ a_list Args 1 f → IsFull order lists f
+    call_anew : is_among lists (labelled Post 2) u.read ≡ true → (c : Enclosed (Iso s) class_of Args fuel depth u) (f : Forest) → c.list.read ≡ a_list Args 1 f → IsFull order lists f
         → anew_so shut (ending Args ≡ true) (λ m ys. reads m (depth + 1) (produce Args) ys) c.list → nat_lt depth deepest ≡ true → Call_so
     call_anew so c f is full inner less = record {
       near = subst (λ ts. Near class_of called ts (tokens_of (renew (child_of Post 2 u.read)))) (sym old)
@@ -174,9 +175,9 @@ module _ (s : Edition) (class_of : ℕ → Class) (order : List ℕ) (lists : �
         (subst (λ k. AreFull order lists true k) whole (subst (λ b. AreFull order lists b u.read) so full.0)).0
 
     with_list : is_among lists (labelled Post 2) u.read ≡ true → AreFull order lists false (child_of Post 2 u.read) → item_read fuel depth call xs ≡ Some u
-        → Enclosed s class_of Args fuel depth u → Call_so
+        → Enclosed (Iso s) class_of Args fuel depth u → Call_so
     with_list so full e c =
-        branch {P = Call_so} (may_read g class_of own (inside s class_of Args) c.from) (item_read fuel depth (inside s class_of Args) c.from) (Some (taken none c.from)) c.list
+        branch {P = Call_so} (may_read g class_of own (inside (Iso s) class_of Args) c.from) (item_read fuel depth (inside (Iso s) class_of Args) c.from) (Some (taken none c.from)) c.list
         (λ x e'.
         branch {P = Call_so} (may_read g class_of own (part Args) c.from && nat_lt depth deepest) (reads fuel (depth + 1) (produce Args) c.from) None c.list
         (λ y e''.
@@ -193,7 +194,7 @@ module _ (s : Edition) (class_of : ℕ → Class) (order : List ℕ) (lists : �
 
     call_by : (b : Bool) → is_among lists (labelled Post 2) u.read ≡ b → AreFull order lists false (child_of Post 2 u.read) → item_read fuel depth call xs ≡ Some u → Call_so
     call_by false apart full e = call_still (ap (λ b. permuted order lists b u.read) apart) (full-child order lists Post 2 u.read apart full) e
-    call_by true so full e = with_list so full e (enclosed_so s class_of Args fuel depth xs u e)
+    call_by true so full e = with_list so full e (enclosed_so (Iso s) class_of Args fuel depth xs u e)
 
   pub call_child : (fuel : ℕ) → Goods s class_of order lists fuel → Child_so s class_of order lists fuel Post 2 call
   call_child fuel goods depth xs u h k le full e = call_by fuel goods depth xs u (is_among lists (labelled Post 2) u.read) refl full e
@@ -209,7 +210,7 @@ module _ (s : Edition) (class_of : ℕ → Class) (order : List ℕ) (lists : �
     list_still same full e = child_itself s class_of order lists fuel goods Suffix 2 parameter_list depth xs u refl refl refl full same e
 
     -- the parameters change places
-    list_anew : is_among lists (labelled Suffix 2) u.read ≡ true → (c : Enclosed s class_of Params fuel depth u) (f : Forest) → c.list.read ≡ a_list Params 2 f → IsFull order lists f
+    list_anew : is_among lists (labelled Suffix 2) u.read ≡ true → (c : Enclosed (Iso s) class_of Params fuel depth u) (f : Forest) → c.list.read ≡ a_list Params 2 f → IsFull order lists f
         → anew_so shut (ending Params ≡ true) (λ m ys. reads m (depth + 1) (produce Params) ys) c.list → nat_lt depth deepest ≡ true
         → Plain (here g class_of (tokens_of f ++ (c.closing ∷ []))) → List_so
     list_anew so c f is full inner less plain = record {
@@ -260,7 +261,7 @@ module _ (s : Edition) (class_of : ℕ → Class) (order : List ℕ) (lists : �
         ap (λ k. enclosed o (a_list Params 1 k) c) (permuted-flat order lists (is_among lists (labelled Params 1) f) f flat)
 
     with_made : is_among lists (labelled Suffix 2) u.read ≡ true → AreFull order lists false (child_of Suffix 2 u.read) → item_read fuel depth parameter_list xs ≡ Some u
-        → (c : Enclosed s class_of Params fuel depth u) → reads fuel (depth + 1) (produce Params) c.from ≡ Some c.list → nat_lt depth deepest ≡ true → Made s class_of c.from c.list → List_so
+        → (c : Enclosed (Iso s) class_of Params fuel depth u) → reads fuel (depth + 1) (produce Params) c.from ≡ Some c.list → nat_lt depth deepest ≡ true → Made s class_of c.from c.list → List_so
     with_made so full e c e' less (names f is flat) =
         let whole : u.read ≡ enclosed c.opening (a_list Params 1 f) c.closing = c.is ∙ ap (λ l. enclosed c.opening l c.closing) is in
         let stays : (b : Bool) → permuted order lists b u.read ≡ u.read = λ b. ap (permuted order lists b) whole ∙ (names_stay c.opening c.closing f b flat ∙ sym whole) in
@@ -269,15 +270,15 @@ module _ (s : Edition) (class_of : ℕ → Class) (order : List ℕ) (lists : �
     with_made so full e c e' less (types f is plain) =
         let fulls = list_full so full c.opening c.closing 2 f (c.is ∙ ap (λ l. enclosed c.opening l c.closing) is) in
         let text : c.from ≡ tokens_of f ++ (c.closing ∷ u.left) =
-        (goal_text g ending (tells s) class_of fuel (depth + 1) (produce Params) c.from c.list e').0
+        (goal_text g ending (tells (Iso s)) class_of fuel (depth + 1) (produce Params) c.from c.list e').0
         ∙ (ap (λ k. tokens_of k ++ c.list.left) is ∙ (ap (λ ts. ts ++ c.list.left) (append-nil (tokens_of f)) ∙ ap (λ ys. tokens_of f ++ ys) c.behind_list)) in
         list_anew so c f is fulls.0 (goods (depth + 1) (produce Params) c.from c.list refl (subst (λ k. AreFull order lists false k) (sym is) (fulls.1, tt)) e') less
         (subst Plain (ap (here g class_of) text ∙ here_front class_of g (tokens_of f) c.closing u.left []) plain)
 
     with_params : is_among lists (labelled Suffix 2) u.read ≡ true → AreFull order lists false (child_of Suffix 2 u.read) → item_read fuel depth parameter_list xs ≡ Some u
-        → Enclosed s class_of Params fuel depth u → List_so
+        → Enclosed (Iso s) class_of Params fuel depth u → List_so
     with_params so full e c =
-        branch {P = List_so} (may_read g class_of own (inside s class_of Params) c.from) (item_read fuel depth (inside s class_of Params) c.from) (Some (taken none c.from)) c.list
+        branch {P = List_so} (may_read g class_of own (inside (Iso s) class_of Params) c.from) (item_read fuel depth (inside (Iso s) class_of Params) c.from) (Some (taken none c.from)) c.list
         (λ x e'.
         branch {P = List_so} (may_read g class_of own (part Params) c.from && nat_lt depth deepest) (reads fuel (depth + 1) (produce Params) c.from) None c.list
         (λ y e''.
@@ -290,7 +291,7 @@ module _ (s : Edition) (class_of : ℕ → Class) (order : List ℕ) (lists : �
 
     list_by : (b : Bool) → is_among lists (labelled Suffix 2) u.read ≡ b → AreFull order lists false (child_of Suffix 2 u.read) → item_read fuel depth parameter_list xs ≡ Some u → List_so
     list_by false apart full e = list_still (ap (λ b. permuted order lists b u.read) apart) (full-child order lists Suffix 2 u.read apart full) e
-    list_by true so full e = with_params so full e (enclosed_so s class_of Params fuel depth xs u (sym (list_same fuel depth xs) ∙ e))
+    list_by true so full e = with_params so full e (enclosed_so (Iso s) class_of Params fuel depth xs u (sym (list_same fuel depth xs) ∙ e))
 
   pub list_child : (fuel : ℕ) → Goods s class_of order lists fuel → Child_so s class_of order lists fuel Suffix 2 parameter_list
   list_child fuel goods depth xs u h k le full e = list_by fuel goods depth xs u (is_among lists (labelled Suffix 2) u.read) refl full e

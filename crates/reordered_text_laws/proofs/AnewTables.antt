@@ -2,6 +2,7 @@
 use Rattle.std.proofs.Common.{ℕ, suc, zero, ◌+◌, ◌≡◌, Bool, true, false, ◌||◌, List, [], ◌∷◌, length, refl, ap, inl, inr}
 use Rattle.std.specs.List.{list_all}
 use Rattle.std.proofs.lemmas.Bool.{and_parts}
+use Rattle.c99_grammar.specs.declared.dialects.Dialect.TheVariants.{Iso}
 use Rattle.c99_grammar.specs.declared.dialects.Edition.{Edition}
 use Rattle.c99_tree.specs.declared.production.Production.{Production}
 use Rattle.c99_tree.specs.declared.production.Production.TheVariants.{TranslationUnit, External, ExtRest, ExtTail, FunBody, Declaration, DeclRest, InitDecl, Sassert, Specs, Main, Mod, Qual, Word, StructSpec, SuRest, Members, Member, MemRest, Mdecl, EnumSpec, EnRest, Enumerators, Enumerator, Declarator, Pointer, Direct, Suffix, Bound, Params, Param, Pdecl, Pdirect, TypeName, Adecl, Adirect, Init, InitList, InitItem, Designator, Expr, Assign, Asgop, Cond, Lor, Land, Bor, Bxor, Band, Equal, Relate, Shift, Add, Mul, Cast, CastRest, Unary, SizeRest, SizeLit, Primary, Post, Args, Block, BlockItem, Statement, Sub, ForInit, AutoDecl, Attr, AttrItem, AttrWord, AsmName, Operand, Association, MemberPath, AsmPart, AsmOperand}
@@ -159,9 +160,9 @@ module _ (s : Edition) (class_of : ℕ → Class) (order : List ℕ) (lists : �
     unfolding read_by_classes
     goods zero depth goal xs t fine full e = absurd (stopped t e)
     goods (suc fuel) depth (produce p) xs t fine full e =
-        let text = goal_text (iso s) ending (tells s) class_of (suc fuel) depth (produce p) xs t e in
+        let text = goal_text (iso s) ending (tells (Iso s)) class_of (suc fuel) depth (produce p) xs t e in
         anew_suc s class_of order lists (production_front p) (ending p ≡ true) (λ m ys. read_by_classes (iso s) class_of m depth (produce p) ys) t
-        (anew_first s class_of order lists fuel p ((iso s).table p) depth 1 xs t (children fuel (goods fuel) p) (settled p) ((tells s).alike p fine) ((tells s).closing p) (tests s p) (fronts s p)
+        (anew_first s class_of order lists fuel p ((iso s).table p) depth 1 xs t (children fuel (goods fuel) p) (settled p) ((tells (Iso s)).alike p fine) ((tells (Iso s)).closing p) (tests s p) (fronts s p)
         full (text.1 fine) text.0 e)
     goods (suc fuel) depth (repeat q a) xs t fine full e =
         let both' = and_parts (item_alike (iso s) (many q a)) (tests_free (iso s) (many q a)) fine in

@@ -2,6 +2,7 @@
 use Rattle.std.proofs.Common.{ℕ, suc, zero, ◌+◌, ◌≡◌, Bool, true, false, ◌&&◌, ◌||◌, not, if◌then◌else◌, List, [], ◌∷◌, ◌++◌, Option, None, Some, nat_lt, refl, sym, ap, subst, ◌∙◌}
 use Rattle.std.specs.List.{list_all}
 use Rattle.std.proofs.lemmas.Bool.{false≢true, and_parts, and_from}
+use Rattle.c99_grammar.specs.declared.dialects.Dialect.TheVariants.{Iso}
 use Rattle.c99_grammar.specs.declared.dialects.Edition.{Edition}
 use Rattle.c99_tree.specs.Tree.{Forest, none, token, node, Node, node_of, lone, collapsed}
 use Rattle.c99_tree.specs.declared.production.Production.{Production}
@@ -166,7 +167,7 @@ filled_by s class_of count tree (suc fuel) e =
     let unit = unit_so s class_of fuel 0 (numbers_from 0 count) (taken (untold (node tree.label tree.first tree.under none)) []) e in
     let definitions : Item = many own (part External) in
     let r : Option Taken = read_item (iso s) class_of (read_by_classes (iso s) class_of fuel) 0 definitions (numbers_from 0 count) in
-    let filled : Filled r = filled_item (iso s) (tells s) class_of fuel (fills_all (iso s) (tells s) class_of fuel) definitions 0 (numbers_from 0 count) refl in
+    let filled : Filled r = filled_item (iso s) (tells (Iso s)) class_of fuel (fills_all (iso s) (tells (Iso s)) class_of fuel) definitions 0 (numbers_from 0 count) refl in
     sym (filled_untold tree.under) ∙ (ap (λ f. is_filled (under_of f)) unit.is ∙ filled_is r unit.defs unit.reads_defs filled)
 
 pub filled_unit : (s : Edition) (class_of : ℕ → Class) (count : ℕ) (tree : Node) → IsReadAs s class_of count tree → is_filled tree.under ≡ true

@@ -707,9 +707,6 @@ module _ (s : Edition) (words : List Spelled) (z : List Token) (fits : (k : ℕ)
   unfolding closed
   plain_tree t' = refl
 
-  front_clean : dirty (behind_four (used z)) unit_label (front_forest s) ≡ false
-  front_clean = refl
-
   clean_up : (f : Forest) → dirty (used z) unit_label f ≡ false → dirty (behind_four (used z)) unit_label (joined (front_forest s) (raised f)) ≡ false
   clean_up f e = dirty-joined (behind_four (used z)) unit_label (front_forest s) (raised f) ∙ (dirty-raised (used z) unit_label f ∙ e)
 

@@ -23,7 +23,6 @@ mod Numbers
 mod Before
 mod Alone
 mod Enclosed
-mod Calls
 mod Free
 mod FreeTables
 mod Shuffled

@@ -4,6 +4,7 @@ use Rattle.std.proofs.lemmas.Bool.{false≢true}
 use Rattle.std.proofs.lemmas.List.{length-map, get_or-map, get_or_default, same_lists}
 use Rattle.std.proofs.lemmas.List.Sorted.{length_permutation}
 use Rattle.std.proofs.Math.ListN as listn
+use Rattle.c99_grammar.specs.declared.dialects.Dialect.TheVariants.{Iso}
 use Rattle.c99_grammar.specs.declared.dialects.Edition.{Edition}
 use Rattle.c99_tree.specs.Tree.{Forest, none, token, node, Node, node_of}
 use Rattle.c99_tree.specs.declared.production.Label.{Label}
@@ -98,11 +99,6 @@ pub count-untold : (f : Forest) → token_count (untold f) ≡ token_count f
 count-untold none = refl
 count-untold (token i rest) = ap (λ n. n + 1) (count-untold rest)
 count-untold (node l first under rest) = omega (arith, count-untold under, count-untold rest)
-
-pub untold-untold : (f : Forest) → untold (untold f) ≡ untold f
-untold-untold none = refl
-untold-untold (token i rest) = ap (token i) (untold-untold rest)
-untold-untold (node l first under rest) = ap (λ f. node l 0 f (untold (untold rest))) (untold-untold under) ∙ ap (node l 0 (untold under)) (untold-untold rest)
 
 pub tokens-untold : (f : Forest) → tokens_of (untold f) ≡ tokens_of f
 tokens-untold none = refl
@@ -280,7 +276,7 @@ module _ (s : Edition) (class_of : ℕ → Class) (n count : ℕ) (order : List 
 
     old_tokens : leaves tree.under ≡ numbers_from 0 count
     old_tokens =
-        sym ((goal_text (iso s) ending (tells s) class_of steps 0 (produce TranslationUnit) (numbers_from 0 count) (taken old_unit []) e).0
+        sym ((goal_text (iso s) ending (tells (Iso s)) class_of steps 0 (produce TranslationUnit) (numbers_from 0 count) (taken old_unit []) e).0
         ∙ (append-nil (tokens_of old_unit) ∙ (append-nil (tokens_of (untold tree.under)) ∙ (tokens-untold tree.under ∙ tokens-leaves tree.under))))
 
     long : length order ≡ n
@@ -304,7 +300,7 @@ module _ (s : Edition) (class_of : ℕ → Class) (n count : ℕ) (order : List 
         → Read_so k
     numbered_so k t f h =
         let left : t.left ≡ [] = nothing_mapped place t.left (ap (λ (w : Taken). w.left) h) in
-        let text = (goal_text (iso s) ending (tells s) (λ i. class_of (place i)) k 0 (produce TranslationUnit) (numbers_from 0 count) t f).0 in
+        let text = (goal_text (iso s) ending (tells (Iso s)) (λ i. class_of (place i)) k 0 (produce TranslationUnit) (numbers_from 0 count) t f).0 in
         let run = run_of t.read 0 count t.left (sym text) in
         let read : t.read ≡ node tree.label 0 (untold (numbered 0 new_under)) none =
         sym (retold-runs 0 t.read run.runs) ∙ (sym (retold-renumbered place 0 t.read) ∙ (ap (λ (w : Taken). retold 0 w.read) h

@@ -1,7 +1,7 @@
 -- A list of parameters, or of identifiers alone, and arguments in a new order are read.
 use Rattle.std.proofs.Common.{ℕ, suc, zero, ◌+◌, ◌≡◌, ◌⊎◌, Bool, true, false, ◌&&◌, ◌||◌, if◌then◌else◌, List, [], ◌∷◌, ◌++◌, length, Option, None, Some, nat_lt, refl, sym, ap, subst, ◌∙◌, inr, arith}
 use Rattle.std.proofs.lemmas.Bool.{false≢true, and_parts}
-use Rattle.std.proofs.lemmas.List.{append-nil}
+use Rattle.c99_grammar.specs.declared.dialects.Dialect.TheVariants.{Iso}
 use Rattle.c99_grammar.specs.declared.dialects.Edition.{Edition}
 use Rattle.c99_tree.specs.Tree.{Forest, none, token, node, node_of}
 use Rattle.c99_tree.specs.declared.production.Label.{Label}
@@ -49,9 +49,6 @@ a_list q k f = node (labelled q k) 0 f none
 
 pub under_is : (q : Production) (k j : ℕ) (f h : Forest) → a_list q k f ≡ a_list q j h → f ≡ h
 under_is q k j f h e = ap under_of e
-
-list_tokens : (q : Production) (k : ℕ) (f : Forest) → tokens_of (a_list q k f) ≡ tokens_of f
-list_tokens q k f = append-nil (tokens_of f)
 
 -- ---- Items without a production
 
@@ -187,7 +184,7 @@ module _ (s : Edition) (class_of : ℕ → Class) where
       (λ d f'.
       let m = inner_is Params 2 (item_read fuel depth typing xs) t f' in
       types m.inside.read (ap (λ (w : Taken). w.read) (sym m.whole))
-      (plain_params (here (iso s) class_of xs) (behind (iso s) class_of xs) (starts_so s class_of (suc fuel) depth Params xs t e) c))
+      (plain_params (here (iso s) class_of xs) (behind (iso s) class_of xs) (starts_so (Iso s) class_of (suc fuel) depth Params xs t e) c))
       (λ d f'. absurd (stopped t f')) f)
       e
 
@@ -208,11 +205,11 @@ module _ (s : Edition) (class_of : ℕ → Class) where
 
   module _ (q : Production) (closes : ending q ≡ true) (never : never_empty q ≡ true) where
     item_node : (fuel depth : ℕ) (f : Forest) (zs : List ℕ) → here (iso s) class_of zs ≡ RightParen
-        → IsItem (iso s) ending (tells s) class_of q closes never fuel depth f → IsNode f
+        → IsItem (iso s) ending (tells (Iso s)) class_of q closes never fuel depth f → IsNode f
     item_node fuel depth f zs end item = node_read fuel depth q (tokens_of f ++ zs) (taken f zs) (item zs (inr end))
 
     items_nodes : (fuel depth : ℕ) (more : Others) (zs : List ℕ) → here (iso s) class_of zs ≡ RightParen
-        → AreItems (iso s) ending (tells s) class_of q closes never fuel depth more → AllNodes more
+        → AreItems (iso s) ending (tells (Iso s)) class_of q closes never fuel depth more → AllNodes more
     items_nodes fuel depth [] zs end items = tt
     items_nodes fuel depth (x ∷ more) zs end items = (item_node fuel depth x.1 zs end items.0, items_nodes fuel depth more zs end items.1)
 
@@ -235,7 +232,7 @@ module _ (s : Edition) (class_of : ℕ → Class) where
 
     pub args_ordered : Ordered Args 1
     args_ordered fuel depth xs t f e end eq full =
-        let found = args_found s class_of fuel depth xs t end (one_more (iso s) class_of fuel depth (produce Args) xs t e) in
+        let found = args_found (Iso s) class_of fuel depth xs t end (one_more (iso s) class_of fuel depth (produce Args) xs t e) in
         let first : Forest = found.0 in
         let more : Others = found.1.0 in
         let commas : AreCommas class_of more = found.1.1.1.0 in
@@ -244,16 +241,16 @@ module _ (s : Edition) (class_of : ℕ → Class) where
         let whole : f ≡ listed_with first more none = under_is Args 1 1 f (listed first more) (sym eq ∙ found.1.1.0) ∙ sym (ap (joined first) (joined-none (others_of more))) in
         let w = in_new_order class_of order first more none refl (item_node Assign refl refl fuel depth first t.left end item) (items_nodes Assign refl refl fuel depth more t.left end items) commas
         is_order (subst Many whole full) in
-        let again = args_in_order s class_of Assign refl refl fuel depth first more w.other w.others w.moved item items in
+        let again = args_in_order (Iso s) class_of Assign refl refl fuel depth first more w.other w.others w.moved item items in
         let same : shuffled order f ≡ listed w.other w.others = ap (shuffled order) whole ∙ (w.same ∙ ap (joined w.other) (joined-none (others_of w.others))) in
         ordered_by Args 1 (suc (steps_more fuel w.others)) depth f (listed w.other w.others) t.left same
-        (args_together s class_of fuel depth w.other w.others t.left again.0 again.1 w.commas end)
+        (args_together (Iso s) class_of fuel depth w.other w.others t.left again.0 again.1 w.commas end)
 
     typed_ordered : (fuel depth : ℕ) (xs : List ℕ) (t : Taken) (f : Forest) → reads fuel depth (produce Params) xs ≡ Some t → here (iso s) class_of t.left ≡ RightParen
         → t.read ≡ a_list Params 2 f → Many f → Plain (here (iso s) class_of xs)
         → Sometime (λ n. reads n depth (produce Params) (tokens_of (shuffled order f) ++ t.left)) (taken (a_list Params 2 (shuffled order f)) t.left)
     typed_ordered fuel depth xs t f e end eq full plain =
-        let found = params_found s class_of fuel depth xs t end (not_listing (here (iso s) class_of xs) plain) (one_more (iso s) class_of fuel depth (produce Params) xs t e) in
+        let found = params_found (Iso s) class_of fuel depth xs t end (not_listing (here (iso s) class_of xs) plain) (one_more (iso s) class_of fuel depth (produce Params) xs t e) in
         let first : Forest = found.0 in
         let more : Others = found.1.0 in
         let tail : Forest = found.1.1.0 in
@@ -264,9 +261,9 @@ module _ (s : Edition) (class_of : ℕ → Class) where
         let whole : f ≡ listed_with first more tail = under_is Params 2 2 f (listed_with first more tail) (sym eq ∙ found.1.1.1.0) in
         let w = in_new_order class_of order first more tail (tail_empty tail last) (item_node Param refl refl fuel depth first t.left end item)
         (items_nodes Param refl refl fuel depth more t.left end items) commas is_order (subst Many whole full) in
-        let again = args_in_order s class_of Param refl refl fuel depth first more w.other w.others w.moved item items in
+        let again = args_in_order (Iso s) class_of Param refl refl fuel depth first more w.other w.others w.moved item items in
         ordered_by Params 2 (suc (steps_more fuel w.others)) depth f (listed_with w.other w.others tail) t.left (ap (shuffled order) whole ∙ w.same)
-        (params_together s class_of fuel depth w.other w.others tail t.left again.0 again.1 w.commas last end)
+        (params_together (Iso s) class_of fuel depth w.other w.others tail t.left again.0 again.1 w.commas last end)
 
     pub types_ordered : Ordered Params 2
     types_ordered fuel depth xs t f e end eq full = typed_ordered fuel depth xs t f e end eq full (types_so xs t f (params_made fuel depth xs t e) eq)
@@ -274,4 +271,4 @@ module _ (s : Edition) (class_of : ℕ → Class) where
     -- the one list of arguments
     pub args_made : (fuel depth : ℕ) (xs : List ℕ) (t : Taken) → here (iso s) class_of t.left ≡ RightParen → reads fuel depth (produce Args) xs ≡ Some t → (f : Forest) × (t.read ≡ a_list Args 1 f)
     args_made fuel depth xs t end e =
-        let found = args_found s class_of fuel depth xs t end (one_more (iso s) class_of fuel depth (produce Args) xs t e) in (listed found.0 found.1.0, found.1.1.0)
+        let found = args_found (Iso s) class_of fuel depth xs t end (one_more (iso s) class_of fuel depth (produce Args) xs t e) in (listed found.0 found.1.0, found.1.1.0)

@@ -1,12 +1,11 @@
 -- What is read for a production starts it.
 use Rattle.std.proofs.Common.{ℕ, suc, zero, ◌+◌, ◌≡◌, Bool, true, false, ◌||◌, List, [], ◌∷◌, Option, Some, refl, ap, ◌∙◌}
 use Rattle.std.specs.List.{list_any}
-use Rattle.c99_grammar.specs.declared.dialects.Dialect.TheVariants.{Iso}
-use Rattle.c99_grammar.specs.declared.dialects.Edition.{Edition}
+use Rattle.c99_grammar.specs.declared.dialects.Dialect.{Dialect}
 use Rattle.c99_tree.specs.declared.production.Production.{Production}
 use Rattle.c99_grammar.specs.declared.classes.Class.{Class}
 use Rattle.c99_grammar.specs.Items.{Alternative}
-use Rattle.c99_grammar.specs.Standard.{Grammar, iso}
+use Rattle.c99_grammar.specs.Standard.{Grammar, grammar}
 use Rattle.c99_grammar.specs.Starting.{production_starts}
 use Rattle.c99_grammar.proofs.FirstLemmas.{first_sets}
 use Rattle.c99_read.specs.Reading.{Goal, produce}
@@ -27,11 +26,11 @@ module _ (g : Grammar) (class_of : ℕ → Class) (below : ℕ → Goal → List
       (λ c e'. or_right (may_read g class_of a.test a.body xs) _ (any_first p more depth (n + 1) xs t e'))
       e
 
-pub starts_so : (s : Edition) (class_of : ℕ → Class) (fuel depth : ℕ) (p : Production) (xs : List ℕ) (t : Taken)
-    → read_by_classes (iso s) class_of fuel depth (produce p) xs ≡ Some t
-    → production_starts (iso s) p (here (iso s) class_of xs) (behind (iso s) class_of xs) ≡ true
+pub starts_so : (s : Dialect) (class_of : ℕ → Class) (fuel depth : ℕ) (p : Production) (xs : List ℕ) (t : Taken)
+    → read_by_classes (grammar s) class_of fuel depth (produce p) xs ≡ Some t
+    → production_starts (grammar s) p (here (grammar s) class_of xs) (behind (grammar s) class_of xs) ≡ true
 unfolding read_by_classes
 starts_so s class_of zero depth p xs t e = absurd (stopped t e)
 starts_so s class_of (suc fuel) depth p xs t e =
-    first_sets (Iso s) p (here (iso s) class_of xs) (behind (iso s) class_of xs)
-    ∙ any_first (iso s) class_of (read_by_classes (iso s) class_of fuel) p ((iso s).table p) depth 1 xs t e
+    first_sets s p (here (grammar s) class_of xs) (behind (grammar s) class_of xs)
+    ∙ any_first (grammar s) class_of (read_by_classes (grammar s) class_of fuel) p ((grammar s).table p) depth 1 xs t e

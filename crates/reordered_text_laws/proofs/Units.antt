@@ -2,6 +2,7 @@
 use Rattle.std.proofs.Common.{ℕ, suc, zero, ◌≡◌, ◌⊎◌, Bool, true, false, List, [], ◌∷◌, ◌++◌, length, Option, None, Some, refl, sym, ap, subst, ◌∙◌, inl, inr}
 use Rattle.std.proofs.lemmas.Bool.{false≢true}
 use Rattle.std.proofs.lemmas.List.{append-nil}
+use Rattle.c99_grammar.specs.declared.dialects.Dialect.TheVariants.{Iso}
 use Rattle.c99_grammar.specs.declared.dialects.Edition.{Edition}
 use Rattle.c99_tree.specs.Tree.{Forest, none, node}
 use Rattle.c99_tree.specs.declared.production.Label.{Label}
@@ -126,7 +127,7 @@ module _ (s : Edition) (class_of : ℕ → Class) where
         let full' : AreFull order lists false f = full-child order lists TranslationUnit 1 f (not_among order lists (labelled TranslationUnit 1) f refl) (subst (λ k. AreFull order lists false k) u.is full) in
         let a = anew_item s class_of order lists fuel (goods s class_of order lists is_order fuel) definitions depth xs u.defs refl refl full' u.reads_defs in
         let r = a.goes [] (subst (λ ys. Beside g class_of (closes g ending definitions ≡ true) ys []) (sym u.ends) (inl (inl (refl, inl refl)))) in
-        let text : xs ≡ tokens_of f = (item_text g ending (tells s) class_of fuel depth definitions xs u.defs u.reads_defs).0 ∙ (ap (λ ys. tokens_of f ++ ys) u.ends ∙ append-nil (tokens_of f)) in
+        let text : xs ≡ tokens_of f = (item_text g ending (tells (Iso s)) class_of fuel depth definitions xs u.defs u.reads_defs).0 ∙ (ap (λ ys. tokens_of f ++ ys) u.ends ∙ append-nil (tokens_of f)) in
         let goes : item_read r.0 depth definitions (tokens_of (renew f)) ≡ Some (taken (renew f) []) = ap (item_read r.0 depth definitions) (sym (append-nil (tokens_of (renew f)))) ∙ r.1 in
         let inside : item_read r.0 depth unit (tokens_of (renew f)) ≡ Some (taken (renew f) []) =
         then_is (item_read r.0 depth definitions (tokens_of (renew f))) (read_end g class_of) (taken (renew f) []) (taken none []) goes refl ∙ ap (λ k. Some (taken k [])) (joined-none (renew f)) in

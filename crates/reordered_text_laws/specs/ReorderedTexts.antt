@@ -1,13 +1,13 @@
 -- What is true of items that change places, as to how they are read.
-use Rattle.std.specs.Prelude.{ℕ, ◌≡◌, ◌⊎◌, true, false, List, [], ◌∷◌, ◌++◌, map, Option, None, Some, IsPermutation}
-use Rattle.c99_grammar.specs.declared.dialects.Edition.{Edition}
+use Rattle.std.specs.Prelude.{ℕ, ◌≡◌, true, false, List, [], ◌∷◌, ◌++◌, map, Option, None, Some, IsPermutation}
+use Rattle.c99_grammar.specs.declared.dialects.Dialect.{Dialect}
 use Rattle.c99_tree.specs.Tree.{Forest, none, token, node}
 use Rattle.c99_tree.specs.declared.production.Production.{Production}
-use Rattle.c99_tree.specs.declared.production.Production.TheVariants.{Assign, Param, Args, Params, Post}
+use Rattle.c99_tree.specs.declared.production.Production.TheVariants.{Assign, Param, Args, Params}
 use Rattle.c99_grammar.specs.declared.classes.Class.{Class}
-use Rattle.c99_grammar.specs.declared.classes.Class.TheVariants.{LeftParen, RightParen, Identifier}
+use Rattle.c99_grammar.specs.declared.classes.Class.TheVariants.{RightParen, Identifier}
 use Rattle.c99_grammar.specs.Classes.{among}
-use Rattle.c99_grammar.specs.Standard.{Grammar, iso}
+use Rattle.c99_grammar.specs.Standard.{Grammar, grammar}
 use Rattle.c99_read.specs.Reading.{Goal, produce}
 use Rattle.c99_read.specs.Sound.{never_empty}
 use Rattle.reordered_text_laws.specs.ByClasses.{joined, tokens_of, Taken, taken, child_of, here, behind, read_by_classes}
@@ -17,18 +17,18 @@ use Rattle.reordered_text_laws.specs.Lists.{Others, listed, listed_with, items_i
 -- stands.
 abbrev pub PartsAreReadAnywhere : Type 0
 PartsAreReadAnywhere =
-    (s : Edition) (class_of : ℕ → Class) (fuel depth : ℕ) (p : Production) (xs zs : List ℕ) (t : Taken) → never_empty p ≡ true
-    → read_by_classes (iso s) class_of fuel depth (produce p) xs ≡ Some t
-    → here (iso s) class_of t.left ≡ here (iso s) class_of zs → behind (iso s) class_of t.left ≡ behind (iso s) class_of zs
-    → (xs ≡ tokens_of t.read ++ t.left) × (read_by_classes (iso s) class_of fuel depth (produce p) (tokens_of t.read ++ zs) ≡ Some (taken t.read zs))
+    (s : Dialect) (class_of : ℕ → Class) (fuel depth : ℕ) (p : Production) (xs zs : List ℕ) (t : Taken) → never_empty p ≡ true
+    → read_by_classes (grammar s) class_of fuel depth (produce p) xs ≡ Some t
+    → here (grammar s) class_of t.left ≡ here (grammar s) class_of zs → behind (grammar s) class_of t.left ≡ behind (grammar s) class_of zs
+    → (xs ≡ tokens_of t.read ++ t.left) × (read_by_classes (grammar s) class_of fuel depth (produce p) (tokens_of t.read ++ zs) ≡ Some (taken t.read zs))
 
 -- An argument or a parameter that is read before a comma or the end of its list is read the same before any tokens that
 -- begin with one of these, wherever it stands.
 abbrev pub ReadsAnywhere : Production → Type 0
 ReadsAnywhere item =
-    (s : Edition) (class_of : ℕ → Class) (fuel depth : ℕ) (xs zs : List ℕ) (t : Taken) → read_by_classes (iso s) class_of fuel depth (produce item) xs ≡ Some t
-    → EndsItem (here (iso s) class_of t.left) → EndsItem (here (iso s) class_of zs)
-    → (xs ≡ tokens_of t.read ++ t.left) × (read_by_classes (iso s) class_of fuel depth (produce item) (tokens_of t.read ++ zs) ≡ Some (taken t.read zs))
+    (s : Dialect) (class_of : ℕ → Class) (fuel depth : ℕ) (xs zs : List ℕ) (t : Taken) → read_by_classes (grammar s) class_of fuel depth (produce item) xs ≡ Some t
+    → EndsItem (here (grammar s) class_of t.left) → EndsItem (here (grammar s) class_of zs)
+    → (xs ≡ tokens_of t.read ++ t.left) × (read_by_classes (grammar s) class_of fuel depth (produce item) (tokens_of t.read ++ zs) ≡ Some (taken t.read zs))
 
 abbrev pub ItemsAreReadAnywhere : Type 0
 ItemsAreReadAnywhere = ReadsAnywhere Assign × ReadsAnywhere Param
@@ -37,23 +37,23 @@ ItemsAreReadAnywhere = ReadsAnywhere Assign × ReadsAnywhere Param
 -- the same arguments in any other order, with any commas between them, are read to the list of these.
 abbrev pub ArgumentsAreReadInAnyOrder : Type 0
 ArgumentsAreReadInAnyOrder =
-    (s : Edition) (class_of : ℕ → Class) (fuel depth : ℕ) (xs : List ℕ) (t : Taken) → read_by_classes (iso s) class_of fuel depth (produce Args) xs ≡ Some t
-    → here (iso s) class_of t.left ≡ RightParen
+    (s : Dialect) (class_of : ℕ → Class) (fuel depth : ℕ) (xs : List ℕ) (t : Taken) → read_by_classes (grammar s) class_of fuel depth (produce Args) xs ≡ Some t
+    → here (grammar s) class_of t.left ≡ RightParen
     → (first : Forest) × ((more : Others) × ((t.read ≡ child_of Args 1 (listed first more)) × (AreCommas class_of more
     × ((other : Forest) (others : Others) (zs : List ℕ) → IsPermutation (items_in first more) (items_in other others) → AreCommas class_of others
-    → here (iso s) class_of zs ≡ RightParen
-    → (steps : ℕ) × (read_by_classes (iso s) class_of steps depth (produce Args) (tokens_of (listed other others) ++ zs) ≡ Some (taken (child_of Args 1 (listed other others)) zs))))))
+    → here (grammar s) class_of zs ≡ RightParen
+    → (steps : ℕ) × (read_by_classes (grammar s) class_of steps depth (produce Args) (tokens_of (listed other others) ++ zs) ≡ Some (taken (child_of Args 1 (listed other others)) zs))))))
 
 -- So are the parameters of a list of these (6.7.5.3), which does not begin with an identifier; a comma and `...` at its end
 -- stay there.
 abbrev pub ParametersAreReadInAnyOrder : Type 0
 ParametersAreReadInAnyOrder =
-    (s : Edition) (class_of : ℕ → Class) (fuel depth : ℕ) (xs : List ℕ) (t : Taken) → read_by_classes (iso s) class_of fuel depth (produce Params) xs ≡ Some t
-    → here (iso s) class_of t.left ≡ RightParen → among (Identifier ∷ []) (here (iso s) class_of xs) ≡ false
+    (s : Dialect) (class_of : ℕ → Class) (fuel depth : ℕ) (xs : List ℕ) (t : Taken) → read_by_classes (grammar s) class_of fuel depth (produce Params) xs ≡ Some t
+    → here (grammar s) class_of t.left ≡ RightParen → among (Identifier ∷ []) (here (grammar s) class_of xs) ≡ false
     → (first : Forest) × ((more : Others) × ((tail : Forest) × ((t.read ≡ child_of Params 2 (listed_with first more tail)) × ((AreCommas class_of more × IsTail class_of tail)
     × ((other : Forest) (others : Others) (zs : List ℕ) → IsPermutation (items_in first more) (items_in other others) → AreCommas class_of others
-    → here (iso s) class_of zs ≡ RightParen
-    → (steps : ℕ) × (read_by_classes (iso s) class_of steps depth (produce Params) (tokens_of (listed_with other others tail) ++ zs)
+    → here (grammar s) class_of zs ≡ RightParen
+    → (steps : ℕ) × (read_by_classes (grammar s) class_of steps depth (produce Params) (tokens_of (listed_with other others tail) ++ zs)
     ≡ Some (taken (child_of Params 2 (listed_with other others tail)) zs)))))))
 
 -- ---- Lists in their parentheses
@@ -61,18 +61,6 @@ ParametersAreReadInAnyOrder =
 -- the children of a list in its parentheses, which are told by their numbers
 abbrev pub enclosed : ℕ → Forest → ℕ → Forest
 enclosed opening list closing = token opening (joined list (token closing none))
-
--- A call with arguments (6.5.2.2) that is read is read, whatever tokens stand behind it, with its arguments in any other
--- order too.
-abbrev pub CallsAreReadInAnyOrder : Type 0
-CallsAreReadInAnyOrder =
-    (s : Edition) (class_of : ℕ → Class) (fuel depth : ℕ) (xs : List ℕ) (t : Taken) → read_by_classes (iso s) class_of fuel depth (produce Post) xs ≡ Some t
-    → here (iso s) class_of xs ≡ LeftParen
-    → ((opening : ℕ) × ((closing : ℕ) × (t.read ≡ child_of Post 2 (enclosed opening none closing))))
-    ⊎ ((opening : ℕ) × ((closing : ℕ) × ((first : Forest) × ((more : Others) × ((t.read ≡ child_of Post 2 (enclosed opening (child_of Args 1 (listed first more)) closing))
-    × ((other : Forest) (others : Others) (zs : List ℕ) → IsPermutation (items_in first more) (items_in other others) → AreCommas class_of others
-    → (steps : ℕ) × (read_by_classes (iso s) class_of steps depth (produce Post) (opening ∷ (tokens_of (listed other others) ++ (closing ∷ zs)))
-    ≡ Some (taken (child_of Post 2 (enclosed opening (child_of Args 1 (listed other others)) closing)) zs))))))))
 
 -- ---- Numbers of tokens
 

@@ -32,8 +32,7 @@ pub use marks::{runs_have_marks, tokens_are_of_classes, trees_have_marks};
 pub use reading::{plain_tokens_stand_in_order, spelled_texts_have_names, texts_are_read_in_order};
 pub use texts::{
     agreeing_texts_are_read, arguments_are_read_in_any_order, arranged_tokens_are_read_in_order,
-    calls_are_read_in_any_order, items_are_read_anywhere, lists_are_read_in_any_order,
-    names_agree_behind_a_typedef, numbers_do_not_matter, parameters_are_read_in_any_order,
-    texts_alone_are_read_by_classes, texts_alone_are_read_in_order,
-    texts_are_read_behind_a_typedef,
+    items_are_read_anywhere, lists_are_read_in_any_order, names_agree_behind_a_typedef,
+    numbers_do_not_matter, parameters_are_read_in_any_order, texts_alone_are_read_by_classes,
+    texts_alone_are_read_in_order, texts_are_read_behind_a_typedef,
 };

@@ -2,7 +2,7 @@
 ghost use Rattle.reordered_text_laws.specs.Alone.{TextsAloneAreReadByClasses};
 ghost use Rattle.reordered_text_laws.specs.Fronted.{TextsAreReadBehindATypedef, AgreesBehindATypedef, AgreeingTextsAreRead};
 ghost use Rattle.reordered_text_laws.specs.InOrder.{ListsAreReadInAnyOrder, ArrangedTokensAreReadInOrder, TextsAloneAreReadInOrder};
-ghost use Rattle.reordered_text_laws.specs.ReorderedTexts.{PartsAreReadAnywhere, ItemsAreReadAnywhere, NumbersDoNotMatter, ArgumentsAreReadInAnyOrder, ParametersAreReadInAnyOrder, CallsAreReadInAnyOrder};
+ghost use Rattle.reordered_text_laws.specs.ReorderedTexts.{PartsAreReadAnywhere, ItemsAreReadAnywhere, NumbersDoNotMatter, ArgumentsAreReadInAnyOrder, ParametersAreReadInAnyOrder};
 
 use renamed_tree_laws::agreeing_texts_read_alike;
 use tree_laws::tokens_stand_in_order;
@@ -32,11 +32,6 @@ pub fn arguments_are_read_in_any_order()
 /// Parameters of a list that are read are read in any other order too, to the list of these.
 pub fn parameters_are_read_in_any_order()
     ensures parameters { ParametersAreReadInAnyOrder }
-{}
-
-/// A call that is read is read with its arguments in any other order too, whatever tokens stand behind it.
-pub fn calls_are_read_in_any_order()
-    ensures calls { CallsAreReadInAnyOrder }
 {}
 
 /// What is read is read with all its lists, of arguments and of parameters, in a new order, and what is left stays.

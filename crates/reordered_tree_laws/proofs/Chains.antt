@@ -5,9 +5,7 @@ use Rattle.std.specs.List.{sum_by}
 use Rattle.std.specs.Option.{option_or}
 use Rattle.std.proofs.lemmas.List.Sums.{sum_by-cons}
 use Rattle.std.proofs.lemmas.List.Sorted.{sum_by-IsPermutation}
-use Rattle.cs_base.specs.Token.{Token}
 use Rattle.tree_laws.proofs.Outline.{Entry}
-use Rattle.reordered_tree_laws.proofs.Answered.{Ask, kind_among, kind_append}
 
 -- what each item has added, the latest in front
 abbrev pub heap : List (List Entry) → List Entry
@@ -18,11 +16,6 @@ heap (b ∷ bs) = heap bs ++ b
 abbrev pub chain : List (Option Bool) → Option Bool
 chain [] = None
 chain (o ∷ os) = option_or (chain os) o
-
-pub heap_chain : (toks : List Token) (i : ℕ) (a : Ask) (bs : List (List Entry)) → kind_among toks i a (heap bs) ≡ chain (map (kind_among toks i a) bs)
-heap_chain toks i a [] = refl
-heap_chain toks i a (b ∷ bs) =
-    kind_append toks i a (heap bs) b ∙ ap (λ o. option_or o (kind_among toks i a b)) (heap_chain toks i a bs)
 
 -- ---- Counts
 

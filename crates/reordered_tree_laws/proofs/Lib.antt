@@ -62,10 +62,6 @@ pub mod AgreeSteps
 pub mod AgreeWalk
 pub mod NamesAgree
 pub mod TextsAgree
-pub mod Heads
-pub mod ReadHeads
-pub mod BareTrees
-pub mod ReadNames
 mod NameRows
 -- What the proof rests on, lowest first.
 mod Stacks

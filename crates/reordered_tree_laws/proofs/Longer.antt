@@ -119,10 +119,6 @@ pub plain_under : (l : Label) (first : ℕ) (under rest : Forest) (ys : List Ent
 plain_under l first under rest ys (inl e) = inl ((or_parts (has_body under) (has_body rest) ((or_parts (is_node l FunBody) (has_body under || has_body rest) e).1)).0)
 plain_under l first under rest ys (inr e) = inr e
 
-pub plain_rest : (l : Label) (first : ℕ) (under rest : Forest) (ys : List Entry) → IsPlain (node l first under rest) ys → IsPlain rest ys
-plain_rest l first under rest ys (inl e) = inl ((or_parts (has_body under) (has_body rest) ((or_parts (is_node l FunBody) (has_body under || has_body rest) e).1)).1)
-plain_rest l first under rest ys (inr e) = inr e
-
 pub through_node : (l : Label) (first : ℕ) (under rest : Forest) (o : Outline) (ys : List Entry) → IsPlain (node l first under rest) ys
     → ended l first under (lengthened ys o) (outlined under (begun l first under (lengthened ys o))) ≡ lengthened ys (ended l first under o (outlined under (begun l first under o)))
 through_node l first under rest o ys plain =

@@ -1,5 +1,5 @@
 -- A node is left in two texts that go together.
-use Rattle.std.proofs.Common.{ℕ, ◌+◌, ◌≡◌, Bool, true, false, ◌&&◌, not, if◌then◌else◌, ◌==◌, List, Option, None, Some, refl, sym, ap, subst, ◌∙◌, arith}
+use Rattle.std.proofs.Common.{ℕ, ◌+◌, ◌≡◌, Bool, true, false, ◌&&◌, ◌||◌, not, if◌then◌else◌, ◌==◌, List, Option, None, Some, refl, sym, ap, subst, ◌∙◌, arith}
 use Rattle.std.specs.Prelude.{is_some}
 use Rattle.std.specs.Option.{option_map}
 use Rattle.cs_base.specs.Token.{Token}
@@ -12,7 +12,7 @@ use Rattle.c_types.specs.declared.entity.Linkage.TheVariants.{Absent}
 use Rattle.c_types.specs.declared.frames.Position.{Position}
 use Rattle.c_types.specs.declared.frames.Position.TheVariants.{Lost}
 use Rattle.c_types.specs.declared.frames.Words.{Words}
-use Rattle.c_types.specs.Types.{CType, arithmetic, is_record, is_array, is_arithmetic, inner_of}
+use Rattle.c_types.specs.Types.{CType, arithmetic, is_record, is_array, is_arithmetic, is_unknown, inner_of}
 use Rattle.c_types.specs.Tags.{number_in}
 use Rattle.c_types.specs.Trees.{is_node, words_of, name_below, last_token, declarator_type, first_list, is_text}
 use Rattle.c_types.specs.Declarations.{Facts, anywhere, with_fault, with_declaration, with_complete}
@@ -26,7 +26,7 @@ use Rattle.scope_bind.specs.Walk.{declared_in, parameter_in, facts_after, kept_a
 use Rattle.reordered_tree_laws.specs.Seen.{are_parts}
 use Rattle.reordered_tree_laws.specs.Moving.{moved_type, moved_body, moved_frame, GoTogether, FramesGo, StatesGo, AreMovedTexts}
 use Rattle.reordered_tree_laws.proofs.MovedFacts.{number_moved, complete_moves}
-use Rattle.reordered_tree_laws.proofs.MovedTypes.{type_if, declarator_moved, record_same, arithmetic_same, asks_front, is_type_name, after_moved}
+use Rattle.reordered_tree_laws.proofs.MovedTypes.{type_if, declarator_moved, record_same, arithmetic_same, unknown_same, asks_front, is_type_name, after_moved}
 use Rattle.reordered_tree_laws.proofs.MovedNames.{ScopeGoes, declared_moves, parameter_moves, object_moves}
 use Rattle.reordered_tree_laws.proofs.MovedMembers.{member_moves, anonymous_moves, labels_move}
 use Rattle.reordered_tree_laws.proofs.MovedTrees.{AreSeenMoved}
@@ -156,10 +156,13 @@ module _ (m : ℕ → ℕ) (old new : List Token) (law : AreMovedTexts m old new
 
     part_same : (text text' : Bool) → text' ≡ text → is_part heir.given heir.found text' ≡ is_part child.given child.found text
     part_same text text' e =
-        ap (λ b. not b && (if is_array child.given then not (text' && is_arithmetic (inner_of heir.given)) else is_record heir.given)) (record_same m child.found)
+        ap (λ b. b || (not (is_record heir.found) && (if is_array child.given then not (text' && is_arithmetic (inner_of heir.given)) else is_record heir.given)))
+        (unknown_same m child.given)
+        ∙ ap (λ b. is_unknown child.given || b)
+        (ap (λ b. not b && (if is_array child.given then not (text' && is_arithmetic (inner_of heir.given)) else is_record heir.given)) (record_same m child.found)
         ∙ (ap (λ b. not (is_record child.found) && (if is_array child.given then not (b && is_arithmetic (inner_of heir.given)) else is_record heir.given)) e
         ∙ (ap (λ b. not (is_record child.found) && (if is_array child.given then not (text && b) else is_record heir.given)) (arithmetic_same m (inner_of child.given))
-        ∙ ap (λ b. not (is_record child.found) && (if is_array child.given then not (text && is_arithmetic (inner_of child.given)) else b)) (record_same m child.given)))
+        ∙ ap (λ b. not (is_record child.found) && (if is_array child.given then not (text && is_arithmetic (inner_of child.given)) else b)) (record_same m child.given))))
 
     position_same : (p : Production) (l : Label) → position_after p gr l over heir ≡ position_after p fr l under child
     position_same InitItem l =

@@ -39,10 +39,6 @@ pub and_true : (a : Bool) → a ≡ (a && true)
 and_true true = refl
 and_true false = refl
 
-pub and_twice : (a b : Bool) → (a ≡ true → b ≡ true) → b ≡ (b && true)
-and_twice a true f = refl
-and_twice a false f = refl
-
 pub and_three : (a b c : Bool) → (a && (b && c)) ≡ ((a && b) && c)
 and_three true b c = refl
 and_three false b c = refl

@@ -13,30 +13,24 @@ use Rattle.c99_tree.specs.contracts.production.ProductionPartialEq.TheImpl.{ghos
 use Rattle.c_types.specs.Trees.{is_node, first_token, first_list}
 use Rattle.c_types.specs.Parameters.{ends_in_token}
 use Rattle.name_chains.specs.Frames.{State, state}
-use Rattle.name_chains.specs.Entering.{scope_in, entered}
+use Rattle.name_chains.specs.Entering.{entered}
 use Rattle.scope_bind.specs.Named.{Frame}
-use Rattle.scope_bind.specs.Walk.{passed, left, walked}
-use Rattle.tree_laws.specs.TreesOfTexts.{token_count, AreFrom, begins_with_token, has_form, have_forms}
-use Rattle.tree_laws.proofs.Renaming.{Good}
-use Rattle.tree_laws.proofs.RenamedWalk.{walked_back}
-use Rattle.tree_laws.proofs.RenamedSteps.{left_back}
+use Rattle.scope_bind.specs.Walk.{left}
+use Rattle.tree_laws.specs.TreesOfTexts.{token_count, AreFrom, begins_with_token, has_form}
 use Rattle.list_cuts.specs.Cuts.{done, numbers, IsOrder, AreOf}
 use Rattle.reordered_tree_laws.specs.Reordered.{shuffled, is_parenthesised, is_among, permuted, leaves, numbered}
 use Rattle.reordered_tree_laws.specs.Cuts.{cut_then}
 use Rattle.reordered_tree_laws.specs.Seen.{AreSeenAlike}
-use Rattle.reordered_tree_laws.specs.Premises.{is_items, is_spaced, is_bracketed, has_outer_list, is_fit_child, is_fit}
+use Rattle.reordered_tree_laws.specs.Premises.{is_items, is_spaced, is_bracketed, has_outer_list}
 use Rattle.reordered_tree_laws.specs.Moving.{StatesGo, AreMovedTexts, AreMovedTo}
-use Rattle.reordered_tree_laws.specs.Gathering.{ListsGo}
-use Rattle.reordered_tree_laws.proofs.Arranged.{cut_all}
 use Rattle.reordered_tree_laws.proofs.Seen.{orders_not_seen}
 use Rattle.reordered_tree_laws.proofs.MovedTrees.{AreSeenMoved, AreSpans, seen_numbered, typed_same, last_at, no_last}
 use Rattle.reordered_tree_laws.proofs.MovedFacts.{same_number}
-use Rattle.reordered_tree_laws.proofs.MovedTokens.{token_goes}
 use Rattle.reordered_tree_laws.proofs.MovedEntering.{ArePlaced, entered_moves}
 use Rattle.reordered_tree_laws.proofs.MovedLeaving.{DeclaresAt, left_moves}
-use Rattle.reordered_tree_laws.proofs.MovedHeads.{cut_front, leaves_permute, count_permuted, heads_stay}
+use Rattle.reordered_tree_laws.proofs.MovedHeads.{leaves_permute, count_permuted}
 use Rattle.reordered_tree_laws.proofs.MovedPlaces.{bit, hit, hits, hits-sum, hits-append, hits-once, hits-before, hits-behind, leaves-numbers}
-use Rattle.reordered_tree_laws.proofs.MovedWalk.{count_numbered, from_numbered, begins_some, name_some, IsFitNode, fit_child, fit_shape, or_not, frames_further, at_places, forgotten}
+use Rattle.reordered_tree_laws.proofs.MovedWalk.{count_numbered, from_numbered, begins_some, name_some, IsFitNode, or_not, frames_further}
 
 -- ---- Children of a node that are in another order
 
@@ -240,9 +234,6 @@ module _ (m : ℕ → ℕ) (old new : List Token) (law : AreMovedTexts m old new
   if_no true a b e = absurd (false≢true (sym e))
   if_no false a b e = refl
 
-  abbrev Clean : State → Type 0
-  Clean s = Good old old s.facts
-
   -- a node whose children stand as they stood, but for lists in them, and a list
   pub record IsStep (keeps : Bool) (lo there : ℕ) (l : Label) (under : Forest) (s : State) (b : Bool) : Type 0 where
     pub outer : Bool
@@ -275,70 +266,3 @@ module _ (m : ℕ → ℕ) (old new : List Token) (law : AreMovedTexts m old new
         no_declarator l.production l.alternative ((and_parts (is_parenthesised l) (lists (first_token under 0) && ends_in_token false under) (sym e)).0) in
         if_no (is_node l Declarator) false keeps none ∙ (sym (if_no (is_node l Declarator) (has_outer_list lists false under) keeps none) ∙ h);
   }
-
-  pub walk_lists : (f : Forest) (own keeps : Bool) (lo there : ℕ) (s t : State) → AreFrom lo f → AreMovedTo m there (permuted order lists false f)
-      → have_forms f ≡ true → is_fit lists s.frame.label own s.frame.nth s.frame.scope keeps f ≡ true → AreOf (length order) (cut_then lists false f done)
-      → ListsGo m old new order lists f → Clean (walked old f s) → StatesGo m old new own keeps lo there s t
-      → StatesGo m old new false false (lo + token_count f) (there + token_count f) (walked old f s) (walked new (numbered there (permuted order lists false f)) t)
-  unfolding walked
-  walk_lists none own keeps lo there s t a w forms e each go clean k =
-      at_places m old new law false false lo there (lo + 0) (there + 0) s t (omega arith) (omega arith) (forgotten m old new law own keeps lo there s t k)
-  walk_lists (token i rest) own keeps lo there s t a w forms e each go clean k =
-      let any : Bool = not (is_items s.frame.label) in
-      at_places m old new law false false (lo + 1 + token_count rest) (there + 1 + token_count rest) (lo + (token_count rest + 1)) (there + (token_count rest + 1))
-      (walked old rest (passed old i s)) (walked new (numbered (there + 1) (permuted order lists false rest)) (passed new there t)) (omega arith) (omega arith)
-      (walk_lists rest any keeps (lo + 1) (there + 1) (passed old i s) (passed new there t) a.1 w.1 forms e each go clean
-      (token_goes m old new law own keeps any lo there i s t a.0 (w.0) k))
-  walk_lists (node l first under rest) own keeps lo there s t a w forms e each go clean k =
-      let n : ℕ = token_count under in
-      let b : Bool = is_among lists l under in
-      let g : Forest = permuted order lists b under in
-      let over : Forest = numbered there g in
-      let any : Bool = if is_node l Declarator then has_outer_list lists false under else keeps in
-      let child : Bool = is_fit_child lists s.frame.label own s.frame.nth s.frame.scope keeps l under in
-      let below : Bool = is_fit lists l false 0 (scope_in l.production l under s.frame.scope) keeps under in
-      let more : Bool = is_fit lists s.frame.label own (s.frame.nth + 1) s.frame.scope any rest in
-      let p = and_parts child (below && more) e in
-      let q = and_parts below more p.1 in
-      let fs = and_parts (has_form l.production under) (have_forms under && have_forms rest) forms in
-      let gs = and_parts (have_forms under) (have_forms rest) fs.1 in
-      let fit : IsFitNode s.frame.label own s.frame.nth s.frame.scope keeps l under = fit_child lists s.frame.label own s.frame.nth s.frame.scope keeps l under p.0 in
-      let here : AreOf (length order) (cut_then lists b under done) = cut_front order lists b under (cut_then lists false rest done) done each tt in
-      let later : AreOf (length order) (cut_then lists false rest done) = cut_all order lists b under (cut_then lists false rest done) each in
-      let step : IsStep keeps lo there l under s b =
-      step_of keeps lo there l under s b refl (fit_shape lists s.frame.label own s.frame.nth s.frame.scope keeps l under p.0) (heads_stay order lists under l false 0 (scope_in l.production l under s.frame.scope) keeps q.0) here a.1 w.0 in
-      let count : token_count g ≡ n = count_permuted order lists is b under here in
-      let s1 : State = entered old l lo under s in
-      let t1 : State = entered new l there over t in
-      let s2 : State = left old l lo under s (walked old under s1) in
-      let t2 : State = left new l there over t (walked new over t1) in
-      let clean2 : Clean s2 = walked_back old old (λ word x h. refl) rest s2 (subst (λ (x : ℕ). Clean (walked old rest (left old l x under s (walked old under (entered old l x under s))))) a.0 clean) in
-      let clean1 : Clean (walked old under s1) = left_back old old (λ word x h. refl) l lo under s (walked old under s1) clean2 in
-      let k1 : StatesGo m old new false keeps lo there s1 t1 = node_enters own keeps step.outer lo there l under over s t step.reordered fit k in
-      let inside : StatesGo m old new false false (lo + n) (there + n) (walked old under s1) (walked new over t1) =
-      elim (cases_Bool b) [
-        | inl met ↦
-            let g1 : permuted order lists b under ≡ permuted order lists true under = ap (λ (c : Bool). permuted order lists c under) met in
-            subst (λ (h : Forest). StatesGo m old new false false (lo + n) (there + n) (walked old under s1) (walked new (numbered there h) t1)) (sym g1)
-            (go.0 met keeps lo there s1 t1 refl refl a.1 (subst (λ (h : Forest). AreMovedTo m there h) g1 w.0) clean1.clean k1)
-        | inr unmet ↦
-            let g1 : permuted order lists b under ≡ permuted order lists false under = ap (λ (c : Bool). permuted order lists c under) unmet in
-            subst (λ (h : Forest). StatesGo m old new false false (lo + n) (there + n) (walked old under s1) (walked new (numbered there h) t1)) (sym g1)
-            (walk_lists under false keeps lo there s1 t1 a.1 (subst (λ (h : Forest). AreMovedTo m there h) g1 w.0) gs.0 q.0
-            (subst (λ (c : Bool). AreOf (length order) (cut_then lists c under done)) unmet here) (go.1 unmet) clean1 k1)
-      ] in
-      let w1 : AreMovedTo m (there + n) (permuted order lists false rest) =
-      subst (λ (x : ℕ). AreMovedTo m (there + x) (permuted order lists false rest)) count w.1 in
-      let last : StatesGo m old new false false (lo + n + token_count rest) (there + n + token_count rest) (walked old rest s2)
-      (walked new (numbered (there + n) (permuted order lists false rest)) t2) =
-      walk_lists rest own any (lo + n) (there + n) s2 t2 a.2 w1 gs.1 q.1 later go.2
-      (subst (λ (x : ℕ). Clean (walked old rest (left old l x under s (walked old under (entered old l x under s))))) a.0 clean)
-      (node_leaves own keeps any step.outer lo there l under over s t (walked old under s1) (walked new over t1) step.reordered fs.0 fit k inside step.behind) in
-      let placed : StatesGo m old new false false (lo + (n + token_count rest)) (there + (n + token_count rest)) (walked old rest s2)
-      (walked new (numbered (there + token_count g) (permuted order lists false rest)) t2) =
-      subst (λ (x : ℕ). StatesGo m old new false false (lo + (n + token_count rest)) (there + (n + token_count rest)) (walked old rest s2)
-      (walked new (numbered (there + x) (permuted order lists false rest)) t2)) (sym count)
-      (at_places m old new law false false (lo + n + token_count rest) (there + n + token_count rest) (lo + (n + token_count rest)) (there + (n + token_count rest))
-      (walked old rest s2) (walked new (numbered (there + n) (permuted order lists false rest)) t2) (omega arith) (omega arith) last) in
-      subst (λ (x : ℕ). StatesGo m old new false false (lo + (n + token_count rest)) (there + (n + token_count rest))
-      (walked old rest (left old l x under s (walked old under (entered old l x under s)))) (walked new (numbered (there + token_count g) (permuted order lists false rest)) t2)) (sym a.0) placed

@@ -10,7 +10,7 @@ use Rattle.c99_tree.specs.declared.production.Production.{Production}
 use Rattle.c99_tree.specs.declared.production.Production.TheVariants.{Main, StructSpec, Pointer, Suffix, Mod, SuRest}
 use Rattle.c_types.specs.declared.frames.Words.{Words}
 use Rattle.c_types.specs.Types.{CType, pointer, array, function}
-use Rattle.c_types.specs.Trees.{is_node, is_at, is_list, last_token, first_token, has_node, has_mod, has_at, has_untagged, is_anonymous, words_of, is_one, is_lone_main, is_bare, holds_name, has_name, name_below, suffixed, declarator_type, first_list, is_text}
+use Rattle.c_types.specs.Trees.{is_node, is_at, is_list, last_token, first_token, has_node, has_mod, has_at, has_untagged, is_anonymous, words_of, is_one, is_lone_main, is_bare, holds_name, has_name, name_below, suffixed, is_aside, declarator_type, first_list, is_text}
 use Rattle.tree_laws.specs.TreesOfTexts.{token_count, AreFrom}
 use Rattle.reordered_tree_laws.specs.Reordered.{numbered}
 use Rattle.reordered_tree_laws.specs.Seen.{are_parts}
@@ -167,12 +167,15 @@ typed_same t (node l first under rest) k =
     let rest' : Forest = numbered (k + token_count under) rest in
     let under' : Forest = numbered k under in
     if_same (is_node l Pointer) (declarator_type (pointer t) rest') (declarator_type (pointer t) rest)
-    (if is_node l Suffix then suffixed t (node l k under' rest') else declarator_type (suffixed t rest') under')
-    (if is_node l Suffix then suffixed t (node l first under rest) else declarator_type (suffixed t rest) under)
+    (if is_node l Suffix then suffixed t (node l k under' rest') else (if is_aside l then declarator_type t rest' else declarator_type (suffixed t rest') under'))
+    (if is_node l Suffix then suffixed t (node l first under rest) else (if is_aside l then declarator_type t rest else declarator_type (suffixed t rest) under))
     (typed_same (pointer t) rest (k + token_count under))
-    (if_same (is_node l Suffix) (suffixed t (node l k under' rest')) (suffixed t (node l first under rest)) (declarator_type (suffixed t rest') under')
-    (declarator_type (suffixed t rest) under) (suffixed_same t (node l first under rest) k)
-    (typed_same (suffixed t rest') under k ∙ ap (λ s. declarator_type s under) (suffixed_same t rest (k + token_count under))))
+    (if_same (is_node l Suffix) (suffixed t (node l k under' rest')) (suffixed t (node l first under rest))
+    (if is_aside l then declarator_type t rest' else declarator_type (suffixed t rest') under')
+    (if is_aside l then declarator_type t rest else declarator_type (suffixed t rest) under) (suffixed_same t (node l first under rest) k)
+    (if_same (is_aside l) (declarator_type t rest') (declarator_type t rest) (declarator_type (suffixed t rest') under') (declarator_type (suffixed t rest) under)
+    (typed_same t rest (k + token_count under))
+    (typed_same (suffixed t rest') under k ∙ ap (λ s. declarator_type s under) (suffixed_same t rest (k + token_count under)))))
 
 pub seen_numbered : (m : ℕ → ℕ) → m 0 ≡ 0 → (f : Forest) (there : ℕ) → AreMovedTo m there f → AreSeenMoved m true f (numbered there f)
 seen_numbered m zero f there w = record {

@@ -12,7 +12,7 @@ use Rattle.c_types.specs.declared.types.Base.{Base}
 use Rattle.c_types.specs.declared.types.Base.TheVariants.{Arithmetic, Nothing, Structure, Union, Enumeration, Unknown}
 use Rattle.c_types.specs.Types.{CType, arithmetic, nothing, unknown, pointer, array, function, inner_of, lacking, target_of, adjusted, subscripted, result_of, called, pointed_to, tells_sum, sum_type, points_to_something, tells_members, chosen, is_pointing, is_array, is_function, begins_pointer, is_record, is_nothing, is_arithmetic, is_unknown, is_plain, is_record_base, is_nothing_base, is_arithmetic_base, is_unknown_base}
 use Rattle.c_types.specs.Tags.{base_renumbered, renumbered, is_base_sort, is_sort}
-use Rattle.c_types.specs.Trees.{is_node, is_at, suffixed, declarator_type}
+use Rattle.c_types.specs.Trees.{is_node, is_at, is_aside, suffixed, declarator_type}
 use Rattle.c_types.specs.Declarations.{spelling_at}
 use Rattle.name_chains.specs.Initializers.{is_union_base}
 use Rattle.scope_bind.specs.Named.{Frame}
@@ -180,15 +180,18 @@ module _ (m : ℕ → ℕ) where
   declarator_moved t none = refl
   declarator_moved t (token i rest) = declarator_moved t rest
   declarator_moved t (node l first under rest) =
+      let last : CType = if is_aside l then declarator_type t rest else declarator_type (suffixed t rest) under in
+      let moved : CType = if is_aside l then declarator_type (Goes t) rest else declarator_type (suffixed (Goes t) rest) under in
       type_if (is_node l Pointer) (declarator_type (pointer t) rest)
-      (if is_node l Suffix then suffixed t (node l first under rest) else declarator_type (suffixed t rest) under)
+      (if is_node l Suffix then suffixed t (node l first under rest) else last)
       (declarator_type (pointer (Goes t)) rest)
-      (if is_node l Suffix then suffixed (Goes t) (node l first under rest) else declarator_type (suffixed (Goes t) rest) under)
+      (if is_node l Suffix then suffixed (Goes t) (node l first under rest) else moved)
       (declarator_moved (pointer t) rest)
-      (type_if (is_node l Suffix) (suffixed t (node l first under rest)) (declarator_type (suffixed t rest) under)
-      (suffixed (Goes t) (node l first under rest)) (declarator_type (suffixed (Goes t) rest) under)
+      (type_if (is_node l Suffix) (suffixed t (node l first under rest)) last (suffixed (Goes t) (node l first under rest)) moved
       (suffixed_moved t (node l first under rest))
-      (ap (λ x. declarator_type x under) (suffixed_moved t rest) ∙ declarator_moved (suffixed t rest) under))
+      (type_if (is_aside l) (declarator_type t rest) (declarator_type (suffixed t rest) under) (declarator_type (Goes t) rest)
+      (declarator_type (suffixed (Goes t) rest) under) (declarator_moved t rest)
+      (ap (λ x. declarator_type x under) (suffixed_moved t rest) ∙ declarator_moved (suffixed t rest) under)))
 
   pub renumbered_moved : (t : CType) (e : ℕ) → renumbered (Goes t) (m e) ≡ Goes (renumbered t e)
   renumbered_moved t e = ap (λ (b : Base). record { base = b; derivations = t.derivations }) (by t.base)
@@ -240,11 +243,6 @@ module _ (m : ℕ → ℕ) (old new : List Token) (law : AreMovedTexts m old new
   or_first : (a b c : Bool) → a ≡ true → ((a || b) || c) ≡ true
   or_first true b c e = refl
   or_first false b c e = absurd (false≢true e)
-
-  or_third : (a b c : Bool) → c ≡ true → ((a || b) || c) ≡ true
-  or_third true b c e = refl
-  or_third false true c e = refl
-  or_third false false c e = e
 
   -- ---- What a node has once a child is read
 

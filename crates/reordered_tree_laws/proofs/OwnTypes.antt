@@ -10,7 +10,7 @@ use Rattle.c_types.specs.declared.types.Base.{Base}
 use Rattle.c_types.specs.declared.types.Base.TheVariants.{Arithmetic, Nothing, Structure, Union, Enumeration, Unknown}
 use Rattle.c_types.specs.Types.{CType, arithmetic, nothing, unknown, pointer, array, function, inner_of, lacking, target_of, adjusted, subscripted, result_of, called, pointed_to, tells_sum, sum_type, tells_members, chosen, is_pointing, is_array, is_function, begins_pointer, is_unknown}
 use Rattle.c_types.specs.Tags.{base_number, base_renumbered, renumbered}
-use Rattle.c_types.specs.Trees.{is_node, is_at, suffixed, declarator_type}
+use Rattle.c_types.specs.Trees.{is_node, is_at, is_aside, suffixed, declarator_type}
 use Rattle.scope_bind.specs.Named.{Frame}
 use Rattle.scope_bind.specs.Expressions.{is_sign, prefixed, found_after}
 use Rattle.reordered_tree_laws.specs.Beside.{IsOwn, IsOwnFrame}
@@ -65,11 +65,12 @@ module _ (foreign : ℕ → Bool) (zero_own : foreign 0 ≡ false) where
   own_declarator t none h = h
   own_declarator t (token i rest) h = own_declarator t rest h
   own_declarator t (node l first under rest) h =
-      own_if (is_node l Pointer) (declarator_type (pointer t) rest)
-      (if is_node l Suffix then suffixed t (node l first under rest) else declarator_type (suffixed t rest) under)
+      let last : CType = if is_aside l then declarator_type t rest else declarator_type (suffixed t rest) under in
+      own_if (is_node l Pointer) (declarator_type (pointer t) rest) (if is_node l Suffix then suffixed t (node l first under rest) else last)
       (own_declarator (pointer t) rest h)
-      (own_if (is_node l Suffix) (suffixed t (node l first under rest)) (declarator_type (suffixed t rest) under)
-      (own_suffixed t (node l first under rest) h) (own_declarator (suffixed t rest) under (own_suffixed t rest h)))
+      (own_if (is_node l Suffix) (suffixed t (node l first under rest)) last (own_suffixed t (node l first under rest) h)
+      (own_if (is_aside l) (declarator_type t rest) (declarator_type (suffixed t rest) under) (own_declarator t rest h)
+      (own_declarator (suffixed t rest) under (own_suffixed t rest h))))
 
   base_own : (b : Base) (e : ℕ) → foreign (base_number b) ≡ false → foreign e ≡ false → foreign (base_number (base_renumbered b e)) ≡ false
   base_own (Structure n) e h k = k

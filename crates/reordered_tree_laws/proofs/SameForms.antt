@@ -7,13 +7,13 @@ use Rattle.std.proofs.lemmas.List.Sorted.{IsPermutation-map, list_any-IsPermutat
 use Rattle.c99_tree.specs.Tree.{Forest, none, token, node, Node}
 use Rattle.c99_tree.specs.declared.production.Label.{Label}
 use Rattle.c99_tree.specs.declared.production.Production.{Production}
-use Rattle.c99_tree.specs.declared.production.Production.TheVariants.{FunBody, Enumerator, Declarator}
+use Rattle.c99_tree.specs.declared.production.Production.TheVariants.{FunBody, Enumerator, Declarator, Block, AutoDecl}
 use Rattle.c_types.specs.Trees.{is_node}
 use Rattle.c_types.specs.Lists.{is_declaring}
 use Rattle.list_cuts.specs.Cuts.{Cut, done, numbers, IsOrder, arranged, AreOf, AreItemsOf}
 use Rattle.list_cuts.proofs.OrderLemmas.{length-numbers, get_or-numbers}
 use Rattle.list_cuts.proofs.CutLemmas.{length-order, arranged_permutes}
-use Rattle.tree_laws.specs.TreesOfTexts.{token_count, AreFrom, begins_with_token, has_token, has_body, has_declaring, has_form, have_forms, IsTreeOf}
+use Rattle.tree_laws.specs.TreesOfTexts.{token_count, AreFrom, begins_with_token, has_token, has_two_tokens, has_body, has_open_declaring, has_form, have_forms, IsTreeOf}
 use Rattle.reordered_tree_laws.specs.Reordered.{nodes_in, refilled, no_node, picked_nodes, shuffled, is_among, permuted, leaves, numbered, reordered}
 use Rattle.reordered_tree_laws.specs.Cuts.{cut_then, list_then, items_in, cut_in}
 use Rattle.reordered_tree_laws.proofs.Arranged.{length-leaves, leaves-cut, count-items, items_all, rest_all, cut_all}
@@ -24,17 +24,19 @@ use Rattle.reordered_tree_laws.proofs.Arranged.{length-leaves, leaves-cut, count
 pub record Same (f g : Forest) : Type 0 where
   pub begins : begins_with_token f ≡ begins_with_token g
   pub tokens : has_token f ≡ has_token g
+  pub two : has_two_tokens f ≡ has_two_tokens g
   pub bodies : has_body f ≡ has_body g
-  pub declaring : has_declaring f ≡ has_declaring g
+  pub declaring : has_open_declaring f ≡ has_open_declaring g
   pub forms : have_forms f ≡ have_forms g
 
 pub same_refl : (f : Forest) → Same f f
-same_refl f = record { begins = refl; tokens = refl; bodies = refl; declaring = refl; forms = refl }
+same_refl f = record { begins = refl; tokens = refl; two = refl; bodies = refl; declaring = refl; forms = refl }
 
 pub same_trans : (f g h : Forest) → Same f g → Same g h → Same f h
 same_trans f g h s t = record {
   begins = s.begins ∙ t.begins;
   tokens = s.tokens ∙ t.tokens;
+  two = s.two ∙ t.two;
   bodies = s.bodies ∙ t.bodies;
   declaring = s.declaring ∙ t.declaring;
   forms = s.forms ∙ t.forms;
@@ -44,17 +46,20 @@ pub form-same : (p : Production) (f g : Forest) → Same f g → has_form p f �
 form-same Enumerator f g s = s.begins
 form-same FunBody f g s = ap (λ b. b && not (has_body f)) s.tokens ∙ ap (λ b. has_token g && not b) s.bodies
 form-same Declarator f g s = ap not s.declaring
+form-same AutoDecl f g s = s.two
 form-same _ f g s = refl
 
 pub same_token : (i j : ℕ) (f g : Forest) → Same f g → Same (token i f) (token j g)
-same_token i j f g s = record { begins = refl; tokens = refl; bodies = s.bodies; declaring = s.declaring; forms = s.forms }
+same_token i j f g s = record { begins = refl; tokens = refl; two = s.tokens; bodies = s.bodies; declaring = s.declaring; forms = s.forms }
 
 pub same_node : (l : Label) (i j : ℕ) (u v f g : Forest) → Same u v → Same f g → Same (node l i u f) (node l j v g)
 same_node l i j u v f g s t = record {
   begins = refl;
   tokens = t.tokens;
+  two = refl;
   bodies = ap (λ b. is_node l FunBody || (b || has_body f)) s.bodies ∙ ap (λ b. is_node l FunBody || (has_body v || b)) t.bodies;
-  declaring = ap (λ b. is_declaring l || (b || has_declaring f)) s.declaring ∙ ap (λ b. is_declaring l || (has_declaring v || b)) t.declaring;
+  declaring = ap (λ b. is_declaring l || ((not (is_node l Block) && b) || has_open_declaring f)) s.declaring
+      ∙ ap (λ b. is_declaring l || ((not (is_node l Block) && has_open_declaring v) || b)) t.declaring;
   forms = ap (λ b. b && (have_forms u && have_forms f)) (form-same l.production u v s)
       ∙ (ap (λ b. has_form l.production v && (b && have_forms f)) s.forms ∙ ap (λ b. has_form l.production v && (have_forms v && b)) t.forms);
 }
@@ -74,7 +79,7 @@ abbrev body_below : Node → Bool
 body_below n = is_node n.label FunBody || has_body n.under
 
 abbrev declares_below : Node → Bool
-declares_below n = is_declaring n.label || has_declaring n.under
+declares_below n = is_declaring n.label || (not (is_node n.label Block) && has_open_declaring n.under)
 
 abbrev misformed : Node → Bool
 misformed n = not (has_form n.label.production n.under && have_forms n.under)
@@ -85,11 +90,12 @@ bodies-any (token i rest) = bodies-any rest
 bodies-any (node l first under rest) =
     or_joined (is_node l FunBody) (has_body under) (has_body rest) ∙ ap (λ b. (is_node l FunBody || has_body under) || b) (bodies-any rest)
 
-declaring-any : (f : Forest) → has_declaring f ≡ list_any declares_below (nodes_in f)
+declaring-any : (f : Forest) → has_open_declaring f ≡ list_any declares_below (nodes_in f)
 declaring-any none = refl
 declaring-any (token i rest) = declaring-any rest
 declaring-any (node l first under rest) =
-    or_joined (is_declaring l) (has_declaring under) (has_declaring rest) ∙ ap (λ b. (is_declaring l || has_declaring under) || b) (declaring-any rest)
+    or_joined (is_declaring l) (not (is_node l Block) && has_open_declaring under) (has_open_declaring rest)
+    ∙ ap (λ b. (is_declaring l || (not (is_node l Block) && has_open_declaring under)) || b) (declaring-any rest)
 
 forms-any : (f : Forest) → have_forms f ≡ not (list_any misformed (nodes_in f))
 forms-any none = refl
@@ -115,6 +121,12 @@ tokens-refilled none ns = refl
 tokens-refilled (token i rest) ns = refl
 tokens-refilled (node l first under rest) [] = refl
 tokens-refilled (node l first under rest) (n ∷ ns) = tokens-refilled rest ns
+
+two-refilled : (g : Forest) (ns : List Node) → has_two_tokens (refilled ns g) ≡ has_two_tokens g
+two-refilled none ns = refl
+two-refilled (token i rest) ns = tokens-refilled rest ns
+two-refilled (node l first under rest) [] = refl
+two-refilled (node l first under rest) (n ∷ ns) = refl
 
 pub unfilled : (g : Forest) (ns : List Node) → length (nodes_in g) ≡ 0 → refilled ns g ≡ g
 unfilled none ns e = refl
@@ -153,6 +165,7 @@ module _ (order : List ℕ) (lists : ℕ → Bool) (is : IsOrder (length order) 
       record {
         begins = begins-refilled g ns;
         tokens = tokens-refilled g ns;
+        two = two-refilled g ns;
         bodies = bodies-any (refilled ns g) ∙ (ap (list_any body_below) nodes ∙ (sym (list_any-IsPermutation body_below (nodes_in g) ns moved) ∙ sym (bodies-any g)));
         declaring = declaring-any (refilled ns g) ∙ (ap (list_any declares_below) nodes ∙ (sym (list_any-IsPermutation declares_below (nodes_in g) ns moved) ∙ sym (declaring-any g)));
         forms = forms-any (refilled ns g) ∙ (ap (λ ms. not (list_any misformed ms)) nodes

@@ -7,14 +7,10 @@ use Rattle.c99_tree.specs.declared.production.Production.{Production}
 use Rattle.c99_tree.specs.declared.production.Production.TheVariants.{Declarator, Direct, Pdecl, Pdirect, Adecl, Adirect, Pointer, Suffix, Main, StructSpec, SuRest, Mod}
 use Rattle.c_types.specs.declared.frames.Words.{Words}
 use Rattle.c_types.specs.Types.{CType, pointer, array, function}
-use Rattle.c_types.specs.Trees.{is_node, is_at, last_token, first_token, has_node, has_mod, has_at, has_untagged, is_anonymous, words_of, is_one, is_lone_main, is_bare, holds_name, has_name, name_below, suffixed, declarator_type, is_text}
+use Rattle.c_types.specs.Trees.{is_node, is_at, last_token, first_token, has_node, has_mod, has_at, has_untagged, is_anonymous, words_of, is_one, is_lone_main, is_bare, holds_name, has_name, name_below, suffixed, is_aside, declarator_type, is_text}
 use Rattle.c_types.specs.Parameters.{ends_in_token}
 use Rattle.reordered_tree_laws.specs.Reordered.{nodes_in, refilled, picked_nodes, shuffled, is_parenthesised, is_among, permuted}
 use Rattle.reordered_tree_laws.specs.Seen.{is_part, are_parts, NewOrdersAreNotSeen}
-
--- nodes of the production are no lists
-abbrev IsNoList : Production → Type 0
-IsNoList p = (l : Label) → l.production ≡ p → is_parenthesised l ≡ false
 
 -- a part of a declarator that holds a name is no list
 holder_apart : (p : Production) (n : ℕ) → holds_name p ≡ true → is_parenthesised (record { production = p; alternative = n }) ≡ false
@@ -222,17 +218,21 @@ module _ (order : List ℕ) (lists : ℕ → Bool) where
       let rest' : Forest = permuted order lists false rest in
       let under' : Forest = permuted order lists (is_among lists l under) under in
       if_both (is_node l Pointer) (declarator_type (pointer t) rest') (declarator_type (pointer t) rest)
-      (if is_node l Suffix then suffixed t (node l first under' rest') else declarator_type (suffixed t rest') under')
-      (if is_node l Suffix then suffixed t (node l first under rest) else declarator_type (suffixed t rest) under)
+      (if is_node l Suffix then suffixed t (node l first under' rest') else (if is_aside l then declarator_type t rest' else declarator_type (suffixed t rest') under'))
+      (if is_node l Suffix then suffixed t (node l first under rest) else (if is_aside l then declarator_type t rest else declarator_type (suffixed t rest) under))
       (λ pointing. typed_same (pointer t) rest p.1)
       (λ no_pointer. if_both (is_node l Suffix) (suffixed t (node l first under' rest')) (suffixed t (node l first under rest))
-      (declarator_type (suffixed t rest') under') (declarator_type (suffixed t rest) under)
+      (if is_aside l then declarator_type t rest' else declarator_type (suffixed t rest') under')
+      (if is_aside l then declarator_type t rest else declarator_type (suffixed t rest) under)
       (λ is. suffixed_same t (node l first under rest))
       (λ no_suffix.
+      if_both (is_aside l) (declarator_type t rest') (declarator_type t rest) (declarator_type (suffixed t rest') under') (declarator_type (suffixed t rest) under)
+      (λ aside. typed_same t rest p.1)
+      (λ here.
       let q = and_parts (is_part l.production) (are_parts under)
       (or3_last (is_node l Pointer) (is_node l Suffix) (is_part l.production && are_parts under) p.0 no_pointer no_suffix) in
       ap (declarator_type (suffixed t rest')) (stays l under (part_apart l.production l.alternative q.0))
-      ∙ (typed_same (suffixed t rest') under q.1 ∙ ap (λ s. declarator_type s under) (suffixed_same t rest))))
+      ∙ (typed_same (suffixed t rest') under q.1 ∙ ap (λ s. declarator_type s under) (suffixed_same t rest)))))
 
 pub orders_not_seen : NewOrdersAreNotSeen
 orders_not_seen order lists f = record {

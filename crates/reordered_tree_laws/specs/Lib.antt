@@ -8,7 +8,6 @@ pub mod Adding
 pub mod Ranges
 pub mod Premises
 pub mod Moving
-pub mod Gathering
 pub mod Lasting
 pub mod Owned
 pub mod Siblings

@@ -1,12 +1,11 @@
 -- That the names of a text agree with its tree is kept in a new order of lists (ISO/IEC 9899:1999, 6.2.1, 6.7.7 and 6.7.5.3
 -- paragraph 11).
-use Rattle.std.specs.Prelude.{ℕ, ◌≡◌, Bool, true, List, length, map, Ok}
+use Rattle.std.specs.Prelude.{ℕ, ◌≡◌, Bool, true, List, length, map}
 use Rattle.c99_grammar.specs.declared.dialects.Edition.{Edition}
 use Rattle.cs_base.specs.Token.{Token}
 use Rattle.c99_tree.specs.Tree.{Node}
 use Rattle.c99_grammar.specs.Standard.{iso}
 use Rattle.c99_read.specs.State.{base_at}
-use Rattle.c99_read.specs.Reading.{read_of}
 use Rattle.name_chains.specs.Frames.{at_first as before}
 use Rattle.scope_bind.specs.Bound.{Bound}
 use Rattle.tree_laws.specs.TreesOfTexts.{IsTreeOf}
@@ -29,13 +28,3 @@ ReorderedNamesAgree =
     (s : Edition) (old new : List Token) (order : List ℕ) (lists : ℕ → Bool) (tree : Node) (b : Bound) → IsTreeOf (length old) tree → HaveBareNames s old tree.under
     → CanReorder order lists old tree b → IsReorderedText s order lists tree old new → agrees s old tree.under (before (length old)) ≡ true
     → agrees s new (reordered order lists tree).under (before (length new)) ≡ true
-
--- Each tree that is read of a text has its bare names so.
-abbrev pub TreesHaveBareNames : Type 0
-TreesHaveBareNames = (s : Edition) (toks : List Token) (tree : Node) → read_of (iso s) toks ≡ Ok tree → HaveBareNames s toks tree.under
-
--- So the names of a text that is read agree with the tree in the new order.
-abbrev pub ReadNamesAgree : Type 0
-ReadNamesAgree =
-    (s : Edition) (old new : List Token) (order : List ℕ) (lists : ℕ → Bool) (tree : Node) (b : Bound) → read_of (iso s) old ≡ Ok tree
-    → CanReorder order lists old tree b → IsReorderedText s order lists tree old new → agrees s new (reordered order lists tree).under (before (length new)) ≡ true

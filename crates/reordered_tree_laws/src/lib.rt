@@ -42,7 +42,7 @@ mod items;
 mod lists;
 mod reordered;
 
-pub use agreeing::{read_names_agree, reordered_names_agree, trees_have_bare_names};
+pub use agreeing::reordered_names_agree;
 pub use items::{
     items_add_alike, items_add_their_tokens, items_stand_beside, names_last, nothing_is_asked_for,
     parts_stay_own, siblings_are_apart, wholes_are_clear,
@@ -50,6 +50,5 @@ pub use items::{
 pub use lists::reordered_bind_alike;
 pub use reordered::{
     items_bind_alike, new_orders_are_not_seen, parts_add_beside, parts_bind_alike,
-    parts_move_alike, parts_only_add, ranges_end_with_scopes, reordered_bind_by_lists,
-    reordered_trees_are_of_their_texts,
+    parts_move_alike, parts_only_add, ranges_end_with_scopes, reordered_trees_are_of_their_texts,
 };

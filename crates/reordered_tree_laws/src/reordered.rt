@@ -1,7 +1,6 @@
 // What is true of a tree in which the items of lists stand in another order: laws that no caller runs.
 ghost use Rattle.reordered_tree_laws.specs.Adding.{ItemsBindAlike, PartsAddBeside, PartsOnlyAdd};
 ghost use Rattle.reordered_tree_laws.specs.Beside.{PartsBindAlike};
-ghost use Rattle.reordered_tree_laws.specs.Gathering.{ReorderedBindByLists};
 ghost use Rattle.reordered_tree_laws.specs.Laws.{TokensAreArranged, ReorderedTreesAreOfTheirTexts};
 ghost use Rattle.reordered_tree_laws.specs.Moving.{PartsMoveAlike};
 ghost use Rattle.reordered_tree_laws.specs.Ranges.{RangesEndWithScopes};
@@ -45,11 +44,6 @@ pub fn ranges_end_with_scopes()
 /// A part that is moved as a whole binds alike at its new place.
 pub fn parts_move_alike()
     ensures { PartsMoveAlike }
-{}
-
-/// A text whose lists are in a new order binds name for name as before, where each list by itself goes along.
-pub fn reordered_bind_by_lists()
-    ensures { ReorderedBindByLists }
 {}
 
 /// A part with no object, function, statement or body of its own only adds to what is known: in front, and names of

@@ -4,6 +4,7 @@ use crate::reports::{
     FAILING_CLASSES, FAILING_LISTS, FAILING_NOTHING, FAILING_READS, FAILING_REPORTS,
 };
 use crate::tables::{FAILING, Failing, ROWS, Row, TWO_FILES};
+use crate::trims::FAILING_TRIMS;
 use cs_base::{Files, Got, MemFiles, MemSink, Memory, Put};
 use cscout_run::{HostFiles, Status, run};
 use row_tools::held;
@@ -113,6 +114,14 @@ fn reports_end_where_a_call_fails(rt: HostRuntime) -> Result<(), Memory> {
         check_failing(&rt, failing)?;
     }
     for failing in &FAILING_NOTHING {
+        check_failing(&rt, failing)?;
+    }
+    Ok(())
+}
+
+#[test]
+fn a_trim_ends_where_a_call_fails(rt: HostRuntime) -> Result<(), Memory> {
+    for failing in &FAILING_TRIMS {
         check_failing(&rt, failing)?;
     }
     Ok(())

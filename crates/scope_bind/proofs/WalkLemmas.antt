@@ -36,10 +36,6 @@ module _ (toks : List Token) where
 
 -- ---- The tokens stay
 
--- .. where a node is entered, its children are read, and it is left
-pub toks-left : (K K1 K2 K3 : Known) (F1 F3 : Facts) → K1 ≡ known K.toks F1 → K2.toks ≡ K1.toks → K3 ≡ known K2.toks F3 → K3.toks ≡ K.toks
-toks-left K K1 K2 K3 F1 F3 entering inside leaving = ap (λ k. k.toks) leaving ∙ (inside ∙ ap (λ k. k.toks) entering)
-
 pub known-left : (u : Forest) (l : Label) (first : ℕ) (K K1 K2 K3 : Known) (T : List Token) (f b child g : Frame) → b ≡ frame_in K.toks l u f K.facts
     → K1 ≡ known K.toks (facts_in l.production first u f K.facts) → K2.toks ≡ K1.toks → state K2.facts child ≡ walked K1.toks u (state K1.facts b)
     → K3 ≡ known K2.toks (facts_after K2.toks l.production first f l u child.body K2.facts) → T ≡ K3.toks → g ≡ frame_after T f l u child

@@ -96,6 +96,9 @@ fn is_part_of_array(place: &CType, text: bool) -> Result<bool, Memory>
 fn is_part(place: &CType, item: &CType, text: bool) -> Result<bool, Memory>
     ensures { IfOk result (λ b. b ≡ is_part place.now item.now text) }
 {
+    if place.is_unknown() {
+        return Ok(true);
+    }
     if item.is_record() {
         return Ok(false);
     }

@@ -4,7 +4,7 @@ use Rattle.std.specs.Prelude.{IfSome, IsSome}
 use Rattle.std.specs.Str.{bytes_eq}
 use Rattle.std.proofs.lemmas.Bool.{cases_Bool}
 use Rattle.std.proofs.lemmas.Bool.Decides.{leb_tells}
-use Rattle.cs_base.specs.declared.causes.Cause.TheVariants.{TooManyFiles, TooManyBytes}
+use Rattle.cs_base.specs.declared.causes.Cause.TheVariants.{TooManyBytes}
 use Rattle.cs_base.specs.declared.positions.Place.{Place}
 use Rattle.cs_base.proofs.FileMapLemmas.{bytes_eq-same}
 use Rattle.lexer.specs.FileText.{TextValue, LexFault, FileTooLarge, OpenComment, file_text, text_or_open}
@@ -95,11 +95,6 @@ module _ (place : Place) (path bytes : List ℕ) (t : Table) (unread : found_at 
   opening-first : opening the_limits file_text place path t ≡ first_opened the_limits file_text place path bytes t
   opening-first = ap (opened_as the_limits file_text place path t) unread
 
-  pub opening-files : 4096 ≤ files_opened t → opening the_limits file_text place path t ≡ Err (fault place TooManyFiles)
-  opening-files many =
-      let e : nat_le 4096 (files_opened t) ≡ true = grind (arith, leb_tells 4096 (files_opened t), many) in
-      opening-first ∙ rw e refl
-
   few_files : files_opened t < 4096 → nat_le 4096 (files_opened t) ≡ false
   few_files few = grind (arith, leb_tells 4096 (files_opened t), few)
 
@@ -185,6 +180,3 @@ module _ (t : Table) (path : List ℕ) (number size : ℕ) (unread : IsUnread t 
       → opening the_limits file_text place path t ≡ Err (fault place TooManyBytes)
   opening-much place files bytes toks is few small many =
       opening-bytes place path unread.1.0 t unread.1.1 (omega (arith, few, is.counted)) (omega (arith, small, unread.1.2)) (omega (arith, many, unread.1.2, is.measured))
-
-  pub opening-many : (place : Place) (files bytes toks : ℕ) → IsCache t files bytes toks → 4096 ≤ files → opening the_limits file_text place path t ≡ Err (fault place TooManyFiles)
-  opening-many place files bytes toks is many = opening-files place path unread.1.0 t unread.1.1 (omega (arith, many, is.counted))

@@ -1,11 +1,9 @@
 -- The search, one path at a time.
-use Rattle.std.proofs.Common.{◌≡◌, ℕ, zero, suc, ◌+◌, ◌<◌, Bool, true, false, List, [], ◌∷◌, length, drop, get_or, Option, None, Some, refl, subst, arith, inl, inr, ◌≤◌}
-use Rattle.std.specs.List.{list_all}
-use Rattle.std.specs.Str.{is_utf8, IsUtf8, bytes_eq}
+use Rattle.std.proofs.Common.{◌≡◌, ℕ, zero, suc, ◌+◌, ◌<◌, true, false, List, [], ◌∷◌, length, drop, get_or, Option, None, Some, refl, arith, ◌≤◌}
+use Rattle.std.specs.Str.{IsUtf8}
 use Rattle.std.proofs.lemmas.Str.{IsUtf8-from_is_utf8}
-use Rattle.std.proofs.lemmas.Bool.{cases_Bool, and_parts}
-use Rattle.cs_base.proofs.FileMapLemmas.{bytes_eq-equal}
-use Rattle.source_files.specs.Files.{Source, Found, Lines, Absent, Unopened, Opened, Made, Table, found_at, asked, lines_path}
+use Rattle.std.proofs.lemmas.Bool.{and_parts}
+use Rattle.source_files.specs.Files.{Source, Found, Lines, Absent, Unopened, Opened, Made, Table, found_at, asked}
 use Rattle.source_files.specs.Search.{Searched, searched, search, search_on, can_be_asked}
 use Rattle.source_files.specs.Statuses.{is_missing}
 
@@ -65,14 +63,3 @@ get_or-default (x ∷ xs) (suc i) d e h = get_or-default xs i d e (omega (arith,
 
 pub asked-text : (path : List ℕ) → can_be_asked path ≡ true → IsUtf8 path
 asked-text path h = IsUtf8-from_is_utf8 path ((and_parts _ _ h).0)
-
-pub asked-apart : (path : List ℕ) → can_be_asked path ≡ true → bytes_eq path lines_path ≡ false
-asked-apart path h = elim (cases_Bool (bytes_eq path lines_path)) [
-  | inl same ↦ absurd (let wrong : can_be_asked lines_path ≡ true = subst (λ (p : List ℕ). can_be_asked p ≡ true) (bytes_eq-equal path lines_path same) h in let e : false ≡ true = (and_parts (is_utf8 lines_path) false wrong).1 in cc)
-  | inr other ↦ other
-]
-
-pub list_all-at : {X : Type 0} (p : X → Bool) (xs : List X) (i : ℕ) (d : X) → list_all p xs ≡ true → i < length xs → p (get_or xs i d) ≡ true
-list_all-at p [] i d h l = absurd (omega (arith, l))
-list_all-at p (x ∷ xs) zero d h l = (and_parts _ _ h).0
-list_all-at p (x ∷ xs) (suc i) d h l = list_all-at p xs i d ((and_parts _ _ h).1) (omega (arith, l))

@@ -1,5 +1,6 @@
 -- The names of include lines (ISO/IEC 9899:1999, 6.10.2).
-use Rattle.std.specs.Prelude.{ℕ, ◌-◌, ◌&&◌, Bool, true, false, if◌then◌else◌, Option, Some, None, List, [], ◌∷◌, ◌++◌, codes, length, take, drop}
+use Rattle.std.specs.Prelude.{ℕ, ◌-◌, ◌&&◌, ◌||◌, Bool, true, false, if◌then◌else◌, Option, Some, None, List, [], ◌∷◌, ◌++◌, codes, length, take, drop}
+use Rattle.std.specs.List.{list_any, position}
 use Rattle.std.specs.Option.{option_map}
 use Rattle.cs_base.specs.declared.tokens.Kind.{Kind}
 use Rattle.cs_base.specs.declared.tokens.Kind.TheVariants as kind
@@ -64,3 +65,28 @@ header_of_signs (t ∷ toks) =
 abbrev pub header_of_toks : List Token → Option Header
 header_of_toks (t ∷ []) = header_of_string t
 header_of_toks toks = header_of_signs toks
+
+-- the tokens before the first `>`, if there is one
+abbrev pub until_greater : List Token → Option (List Token)
+until_greater toks = option_map (λ (k : ℕ). take k toks) (position is_greater toks)
+
+-- the header between `<` and the first `>`
+abbrev pub header_behind_less : List Token → Option Header
+header_behind_less [] = None
+header_behind_less (t ∷ toks) =
+    if is_less t then option_map (λ ts. header false (spelled ts)) (until_greater toks) else None
+
+-- the header that a first token names, or else that it begins
+abbrev pub header_or_less : Option Header → List Token → Option Header
+header_or_less (Some h) toks = Some h
+header_or_less None toks = header_behind_less toks
+
+-- the header with which tokens begin that are no header name to the lexer, as they stand
+abbrev pub header_at : List Token → Option Header
+header_at [] = None
+header_at (t ∷ toks) = header_or_less (header_of_string t) (t ∷ toks)
+
+-- tokens begin as such a header does: with a string, or with `<` and a `>` somewhere behind it
+abbrev pub begins_header : List Token → Bool
+begins_header [] = false
+begins_header (t ∷ toks) = is_string t.kind || (is_less t && list_any is_greater toks)

@@ -1,10 +1,10 @@
 // What an include line asks for (6.10.2).
-ghost use Rattle.std.specs.Prelude.{◌≡◌, ◌++◌, ◌&&◌, not, false, None, Some, IfOk, MatchOption};
-ghost use Rattle.std.specs.List.{list_any};
+ghost use Rattle.std.specs.Prelude.{◌≡◌, ◌<◌, ◌++◌, ◌&&◌, ◌||◌, not, false, None, Some, IfOk, IfSome, MatchOption, length};
+ghost use Rattle.std.specs.List.{list_any, position};
 ghost use Rattle.std.specs.Option.{option_map};
 ghost use Rattle.lexer.specs.Characters.{begins, double_quote};
 ghost use Rattle.source_files.specs.Search.{header};
-ghost use Rattle.source_files.specs.HeaderNames.{is_header, is_string, inside, header_in, is_greater, before_greater, gap_text, spaced, spelled, header_of_string, header_of_signs, header_of_toks};
+ghost use Rattle.source_files.specs.HeaderNames.{is_header, is_string, inside, header_in, is_less, is_greater, before_greater, gap_text, spaced, spelled, header_of_string, header_of_signs, header_of_toks, until_greater, header_behind_less, header_at, begins_header};
 
 use crate::signs::{is_greater, is_less};
 use cs_base::{Kind, Memory, Text, Tok};
@@ -204,4 +204,67 @@ pub fn header_of_toks(alloc: Global, toks: &[Tok]) -> Result<Option<Header>, Mem
         [tok] => header_of_string(alloc, tok),
         _ => header_of_signs(alloc, toks),
     }
+}
+
+// The index of the first `>`.
+fn greater_at(toks: &[Tok]) -> Option<usize>
+    ensures answer { result ≡ position is_greater toks.now }
+    ensures within { IfSome result (λ k. k < length toks.now) }
+{
+    toks.iter().position(|tok| is_greater(tok))
+}
+
+// The tokens before the first `>`, if there is one.
+fn until_greater(toks: &[Tok]) -> Option<&[Tok]>
+    ensures { MatchOption result (until_greater toks.now ≡ None) (λ front. until_greater toks.now ≡ Some front.now) }
+{
+    match greater_at(toks) {
+        Some(k) => Some(&toks[..k]),
+        None => None,
+    }
+}
+
+// The header between `<` and the first `>`.
+fn header_behind_less(alloc: Global, toks: &[Tok]) -> Result<Option<Header>, Memory>
+    ensures { IfOk result (λ h. h ≡ header_behind_less toks.now) }
+{
+    match toks.split_first() {
+        Some((first, rest)) if is_less(first) => match until_greater(rest) {
+            Some(front) => {
+                let text = spelled(alloc, front)?;
+                Ok(Some(Header::new(false, Text::new(alloc, &text)?)))
+            }
+            None => Ok(None),
+        },
+        _ => Ok(None),
+    }
+}
+
+/// The header with which tokens begin that are no header name to the lexer, as they stand.
+pub fn header_at(alloc: Global, toks: &[Tok]) -> Result<Option<Header>, Memory>
+    ensures { IfOk result (λ h. h ≡ header_at toks.now) }
+{
+    match toks.split_first() {
+        Some((first, _)) => match header_of_string(alloc, first)? {
+            Some(header) => Ok(Some(header)),
+            None => header_behind_less(alloc, toks),
+        },
+        None => Ok(None),
+    }
+}
+
+/// Whether tokens begin as such a header does.
+pub fn begins_header(toks: &[Tok]) -> bool
+    ensures { result ≡ begins_header toks.now }
+{
+    match toks.split_first() {
+        Some((first, rest)) => begins_with(first, rest),
+        None => false,
+    }
+}
+
+fn begins_with(first: &Tok, rest: &[Tok]) -> bool
+    ensures { result ≡ (is_string first.now.kind || (is_less first.now && list_any is_greater rest.now)) }
+{
+    is_string(first) || is_less(first) && has_greater(rest)
 }

@@ -25,12 +25,12 @@ mod slot;
 mod status;
 
 pub use cache::Cache;
-pub use candidates::candidates_of;
+pub use candidates::{behind_of, candidates_of};
 pub use edit_refusal::EditRefusal;
-pub use header::{Header, header_in, header_of_toks, is_header};
+pub use header::{Header, begins_header, header_at, header_in, header_of_toks, is_header};
 pub use kept_file::KeptFile;
 pub use lexer::FileText;
-pub use line_shape::{Item, ItemKind};
+pub use line_shape::{GnuLine, Item, ItemKind};
 pub use opening::{first_place, open_file};
 pub use pre_fault::{PreFault, fault_at, fault_there};
 pub use searching::{ask_bytes, search};

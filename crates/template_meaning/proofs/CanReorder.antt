@@ -28,7 +28,7 @@ use Rattle.template_meaning.proofs.Children.{each_below}
 use Rattle.template_meaning.proofs.FitWalk.{rest_begins, trees_have_forms}
 use Rattle.template_meaning.proofs.UnitCut.{clear, read, declared, called, units_are_cut, no_list_is_first}
 use Rattle.template_meaning.proofs.UnitReorder.{unit_items, unit_apart, unit_bracketed, unit_fresh, unit_outer}
-use Rattle.template_meaning.proofs.Units.{IsReadSo}
+use Rattle.edited_unit_laws.proofs.EditionLemmas.{IsReadSo}
 
 anonymous_begin : (s : Edition) (f : Forest) → EachNode (IsOfAlternative (iso s)) f → AnonymousBegin f
 anonymous_begin s none each = tt

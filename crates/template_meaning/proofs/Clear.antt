@@ -23,6 +23,7 @@ use Rattle.tree_laws.proofs.NamesRead.{names_are_read}
 use Rattle.source_files.specs.Files.{Source}
 use Rattle.ws_file.specs.Workspace.{WorkspaceValue}
 use Rattle.analysis.specs.Analysis.{UnitAnalysis, AnalysisValue}
+use Rattle.analysis.specs.GnuUnits.{gnu_places}
 use Rattle.analysis.specs.Places.{is_read_only}
 use Rattle.offences.specs.declared.firsts.Offence.{Offence}
 use Rattle.offences.specs.First.{offence, standing}
@@ -33,13 +34,14 @@ use Rattle.template_rules.specs.Insides.{inside_offences, list_insides, unit_ins
 use Rattle.template_rules.specs.LineOffences.{odd_positions, is_odd_by, odd_place, odd_places}
 use Rattle.template_rules.specs.Lists.{parameters_at, parameters_of, arguments_of, separators, each_mark, count_of}
 use Rattle.template_rules.specs.MacroOffences.{is_direct, is_mark_everywhere, macro_place, is_line_number, line_number_place, line_number_places}
-use Rattle.template_rules.specs.Marks.{read_only_at, read_only_place, is_between, is_across, across_place, count_place, mark_offences, declarator_marks, call_marks, unit_marks, all_marks}
+use Rattle.template_rules.specs.Marks.{read_only_at, read_only_place, is_between, is_across, across_place, count_place, main_place, mark_offences, declarator_marks, call_marks, unit_marks, all_marks}
 use Rattle.template_rules.specs.NameOffences.{has_prototype, no_prototype_place, is_callee, value_place, name_offences, unit_names, all_names}
 use Rattle.template_rules.specs.Offences.{list_offences, declarator_offences, call_offences, unit_lists, all_lists, offences_of}
 use Rattle.template_rules.specs.ScopeOffences.{is_inside, declares_more, declaration_place, declaration_places, body_lists_in, body_place, is_used_at, is_spelled_as, is_use, dependence_place, dependence_in, dependence_places}
 use Rattle.template_meaning.specs.Accepted.{IsAccepted}
 use Rattle.template_meaning.specs.Clear.{IsOwn, ListIsClear, DeclaratorIsClear, CallIsClear, NameIsClear, UnitsAreClear}
 use Rattle.template_meaning.proofs.Bare.{bare_pass}
+use Rattle.template_meaning.proofs.Editions.{no_gnu_places}
 use Rattle.template_meaning.proofs.Units.{identifier_placed, name_placed, entity_placed, read_so}
 
 -- ---- places that do not stand
@@ -89,14 +91,20 @@ module _ (source : Source) (ws : WorkspaceValue) (a : AnalysisValue) (members : 
   no_offence : offences_of a members count ≡ []
   no_offence = h.clear
 
-  behind_names : marks ++ (all_macro_names members a ++ (all_insides members a ++ all_lists members a)) ≡ []
-  behind_names = nil_right (all_names members a) (marks ++ (all_macro_names members a ++ (all_insides members a ++ all_lists members a))) no_offence
+  no_gnu : gnu_places a ≡ []
+  no_gnu = no_gnu_places source ws a members order h
 
-  behind_marks : all_macro_names members a ++ (all_insides members a ++ all_lists members a) ≡ []
-  behind_marks = nil_right marks (all_macro_names members a ++ (all_insides members a ++ all_lists members a)) behind_names
+  abbrev last : List Offence
+  last = standing cause.AssemblerText (gnu_places a)
 
-  behind_macros : all_insides members a ++ all_lists members a ≡ []
-  behind_macros = nil_right (all_macro_names members a) (all_insides members a ++ all_lists members a) behind_marks
+  behind_names : marks ++ (all_macro_names members a ++ (all_insides members a ++ (all_lists members a ++ last))) ≡ []
+  behind_names = nil_right (all_names members a) (marks ++ (all_macro_names members a ++ (all_insides members a ++ (all_lists members a ++ last)))) no_offence
+
+  behind_marks : all_macro_names members a ++ (all_insides members a ++ (all_lists members a ++ last)) ≡ []
+  behind_marks = nil_right marks (all_macro_names members a ++ (all_insides members a ++ (all_lists members a ++ last))) behind_names
+
+  behind_macros : all_insides members a ++ (all_lists members a ++ last) ≡ []
+  behind_macros = nil_right (all_macro_names members a) (all_insides members a ++ (all_lists members a ++ last)) behind_marks
 
   module _ (u : UnitAnalysis) (i : In u a.units) where
     abbrev toks : List Token
@@ -115,7 +123,7 @@ module _ (source : Source) (ws : WorkspaceValue) (a : AnalysisValue) (members : 
     insides_none = flat_nil (unit_insides members) a.units u (nil_left (all_insides members a) _ behind_macros) i
 
     lists_none : unit_lists members a (odd_positions a.table) u ≡ []
-    lists_none = flat_nil (unit_lists members a (odd_positions a.table)) a.units u (nil_right (all_insides members a) _ behind_macros) i
+    lists_none = flat_nil (unit_lists members a (odd_positions a.table)) a.units u (nil_left (all_lists members a) last (nil_right (all_insides members a) _ behind_macros)) i
 
     -- ---- a list
 
@@ -125,7 +133,7 @@ module _ (source : Source) (ws : WorkspaceValue) (a : AnalysisValue) (members : 
         by : (o : Option ℕ) → entity_at u.bound.names l.name ≡ o → option_map_or (is_function members toks u.bound.names) o false ≡ true
             → (p : Pos) × (origin_of toks l.name ≡ Some p)
         by None at f = absurd (false≢true f)
-        by (Some e) at f = entity_placed source ws a h.analysed u i l.name e at
+        by (Some e) at f = entity_placed source ws a h.analysed no_gnu u i l.name e at
 
     list_clear : (items : ℕ) (l : NameList) → IsOwn members u l → mark_offences a count toks u.text.reached items l ≡ []
         → inside_offences toks u.text.events u.bound.names l ≡ [] → list_offences members a (odd_positions a.table) u.text l ≡ []
@@ -134,8 +142,9 @@ module _ (source : Source) (ws : WorkspaceValue) (a : AnalysisValue) (members : 
         let placed = own_placed l own in
         let some : place_of toks l.name ≡ [] → ⊥ = no_place toks l.name placed.0 placed.1 in
         let read_only = none_stands cause.ReadOnly (read_only_place a toks l) (nil_left (standing cause.ReadOnly (read_only_place a toks l)) _ no_mark) in
-        let marked = nil_right (standing cause.ReadOnly (read_only_place a toks l))
-        (standing cause.AcrossDirective (across_place toks u.text.reached l) ++ standing cause.ArgumentCount (count_place count items toks l)) no_mark in
+        let behind = standing cause.AcrossDirective (across_place toks u.text.reached l) ++ standing cause.ArgumentCount (count_place count items toks l) in
+        let marked = nil_right (standing cause.Reserved (main_place toks l)) behind
+        (nil_right (standing cause.ReadOnly (read_only_place a toks l)) (standing cause.Reserved (main_place toks l) ++ behind) no_mark) in
         let across = none_stands cause.AcrossDirective (across_place toks u.text.reached l) (nil_left (standing cause.AcrossDirective (across_place toks u.text.reached l)) _ marked) in
         let counted = none_stands cause.ArgumentCount (count_place count items toks l) (nil_right (standing cause.AcrossDirective (across_place toks u.text.reached l)) _ marked) in
         let lines_ = none_stands cause.LineNumber (line_number_places u.text.events l) (nil_left (standing cause.LineNumber (line_number_places u.text.events l)) _ no_inside) in
@@ -155,7 +164,7 @@ module _ (source : Source) (ws : WorkspaceValue) (a : AnalysisValue) (members : 
           lines = λ e j. if_then (is_line_number e.kind e.def e.name && is_between l.begin l.close e.before) (e.at ∷ []) (cons_nil e.at [])
               (flat_nil (line_number_place l) u.text.events e lines_ j);
           declared = λ n j.
-              let p = name_placed source ws a h.analysed u i n j in
+              let p = name_placed source ws a h.analysed no_gnu u i n j in
               if_then (declares_more toks n && is_inside l n.index) (place_of toks n.index) (no_place toks n.index p.0 p.1)
               (flat_nil (declaration_place toks l) u.bound.names n tags j);
           odd = λ p j. if_then (is_odd_by a.table u.text l p) (p ∷ []) (cons_nil p [])
@@ -168,7 +177,7 @@ module _ (source : Source) (ws : WorkspaceValue) (a : AnalysisValue) (members : 
     use_placed : (k : ℕ) → is_use u.bound.names u.bound.bare k ≡ true → (p : Pos) × (origin_of toks k ≡ Some p)
     use_placed k used = elim (or_cases (list_any (is_used_at k) u.bound.names) (is_in u.bound.bare k) used) [
       | inl named ↦ by_name u.bound.names named (λ n j. j)
-      | inr bare ↦ identifier_placed source ws a h.analysed u i k (bare_named k bare)
+      | inr bare ↦ identifier_placed source ws a h.analysed no_gnu u i k (bare_named k bare)
     ]
       where
         by_name : (ns : List Name) → list_any (is_used_at k) ns ≡ true → ((n : Name) → In n ns → In n u.bound.names) → (p : Pos) × (origin_of toks k ≡ Some p)
@@ -176,7 +185,7 @@ module _ (source : Source) (ws : WorkspaceValue) (a : AnalysisValue) (members : 
         by_name (n ∷ ns) w into = elim (or_cases (is_used_at k n) (list_any (is_used_at k) ns) w) [
           | inl here ↦
               let at : n.index ≡ k = eqb-true n.index k (and_parts (n.index == k) _ here).0 in
-              let p = name_placed source ws a h.analysed u i n (into n (0, refl)) in
+              let p = name_placed source ws a h.analysed no_gnu u i n (into n (0, refl)) in
               (p.0, ap (λ (j : ℕ). origin_of toks j) (sym at) ∙ p.1)
           | inr later ↦ by_name ns later (λ m j. into m (suc j.0, j.1))
         ]
@@ -192,7 +201,7 @@ module _ (source : Source) (ws : WorkspaceValue) (a : AnalysisValue) (members : 
 
         bare_named : (j : ℕ) → is_in u.bound.bare k ≡ true → is_identifier (base_at (iso (edition u.standard)) toks k) ≡ true
         bare_named j bare =
-            let read = read_so source ws a h.analysed u i in
+            let read = read_so source ws a h.analysed no_gnu u i in
             let test : ℕ → Bool = λ m. is_identifier (base_at (iso (edition u.standard)) toks m) in
             let pass = bare_pass test u.tree.under _ 0 (names_are_read (edition u.standard) toks u.tree read.reads) in
             let own : u.bound.bare ≡ _ = ap (λ (b : Bound). b.bare) (binding_is toks u.tree u.bound read.binds) in
@@ -259,7 +268,7 @@ module _ (source : Source) (ws : WorkspaceValue) (a : AnalysisValue) (members : 
 
     name_clear : (n : Name) → In n u.bound.names → NameIsClear members u n
     name_clear n j =
-        let p = name_placed source ws a h.analysed u i n j in
+        let p = name_placed source ws a h.analysed no_gnu u i n j in
         let some : place_of toks n.index ≡ [] → ⊥ = no_place toks n.index p.0 p.1 in
         let none = flat_nil (name_offences members toks u.bound.names u.bound.calls lists) u.bound.names n names_none j in
         let no_prototype = none_stands cause.NoPrototype (no_prototype_place members toks u.bound.names lists n)

@@ -17,7 +17,7 @@ use Rattle.c99_read.specs.Sound.{never_empty, has_token, is_low, is_sound}
 use Rattle.c_types.specs.declared.parameters.ParameterForm.TheVariants.{Types as types, Ellipsis as ellipsis}
 use Rattle.c_types.specs.Lists.{odd_tokens, list_of}
 use Rattle.c_types.specs.Parameters.{declared_names, ends_in_token, typed, untyped, parameters_of}
-use Rattle.c_types.specs.Trees.{is_at, is_list, last_token}
+use Rattle.c_types.specs.Trees.{is_at, is_list}
 use Rattle.tree_laws.specs.TreesOfTexts.{token_count, AreFrom}
 use Rattle.tree_laws.specs.Shapes.{has_no_declaring}
 use Rattle.c99_read.proofs.C99Sound.{iso-sound}
@@ -216,9 +216,6 @@ module _ (s : Edition) where
       omega (arith, below)
 
 -- ---- A list of a unit
-
-last_of : (i m first : ℕ) (l : Label) (items : Forest) → last_token (token i (node l first items (token m none))) 0 ≡ m
-last_of i m first l items = refl
 
 module _ (s : Edition) (n : ℕ) where
   -- the argument list of a call

@@ -68,9 +68,6 @@ module _ (names : List Name) (count : ℕ) (all : All (IsWithin count) names) wh
 abbrev named_outside : UnitValue → UnitAnalysis → ℕ → Option ExternalName
 named_outside unit u k = option_and_then (external_if unit u k) (entity_at u.bound.names k)
 
-text_of : Token → List ℕ
-text_of t = t.text
-
 module _ (members : List Part) (order : List ℕ) (u v : UnitAnalysis) (cut : IsCut members order u) (is : IsReorderedUnit members order u v)
     (within : All (IsWithin (length u.text.toks)) u.bound.names) (within2 : All (IsWithin (length v.text.toks)) v.bound.names) where
   abbrev c : Cut

@@ -70,9 +70,6 @@ apart_items file i j x y m n e g apart a b c d lt = by (nat_lt i j) refl (nat_lt
 
 -- ---- marks
 
-first_later : (p : ℕ) (ms : List ℕ) → first_of (later_by p (0 ∷ ms)) ≡ p + 0
-first_later p ms = refl
-
 -- of marks that are there
 pub first_shift : (limit p : ℕ) (l : List ℕ) → AreOfList limit l → first_of (later_by p l) ≡ p + first_of l
 first_shift limit p [] w = absurd w

@@ -57,10 +57,6 @@ not_false : (b : Bool) → b ≡ false → not b ≡ true
 not_false true e = absurd (false≢true (sym e))
 not_false false e = refl
 
-not_true : (b : Bool) → not b ≡ true → b ≡ false
-not_true true e = absurd (false≢true e)
-not_true false e = refl
-
 or_none : (a b : Bool) → a ≡ false → b ≡ false → (a || b) ≡ false
 or_none true b e f = e
 or_none false b e f = f

@@ -51,10 +51,6 @@ node_param : (q : Production) → ghosts.eq q Param ≡ is_param q
 node_param Param = refl
 node_param _ = refl
 
-or_right : (a b : Bool) → b ≡ true → (a || b) ≡ true
-or_right true b e = refl
-or_right false b e = e
-
 module _ (toks : List Token) (names : List Name) (s : Edition) (lo hi : ℕ) (clean : (t : ℕ) → lo ≤ t → t < hi → IsClean toks names t) where
   abbrev Part : Bool → Bool → Label → ℕ → Forest → Type 0
   Part body listing l a f = IsPart toks names s lo hi clean body listing l a f

@@ -34,12 +34,6 @@ get_taken (suc n) [] i x is = absurd (cc)
 get_taken (suc n) (y ∷ xs) zero x is = is
 get_taken (suc n) (y ∷ xs) (suc i) x is = get_taken n xs i x is
 
-take_get : {X : Type 0} (n : ℕ) (xs : List X) (i : ℕ) (x : X) → i < n → slice_get xs i ≡ Some x → slice_get (take n xs) i ≡ Some x
-take_get zero xs i x lt is = absurd (omega (arith, lt))
-take_get (suc n) [] i x lt is = absurd (cc)
-take_get (suc n) (y ∷ xs) zero x lt is = is
-take_get (suc n) (y ∷ xs) (suc i) x lt is = take_get n xs i x (omega (arith, lt)) is
-
 get_drop : {X : Type 0} (n : ℕ) (xs : List X) (i : ℕ) → slice_get (drop n xs) i ≡ slice_get xs (n + i)
 get_drop zero xs i = let same : 0 + i ≡ i = omega arith in ap (slice_get xs) (sym same)
 get_drop (suc n) [] i = refl

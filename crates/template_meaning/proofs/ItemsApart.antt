@@ -1,5 +1,5 @@
 -- No parameter of a list asks for the name of another one, and their names differ.
-use Rattle.std.proofs.Common.{ℕ, suc, ◌+◌, ◌<◌, ◌≤◌, ◌≡◌, Bool, true, false, ◌&&◌, ◌||◌, not, if◌then◌else◌, List, [], ◌∷◌, ◌++◌, length, Option, refl, sym, ap, subst, arith, append_assoc}
+use Rattle.std.proofs.Common.{ℕ, suc, ◌+◌, ◌<◌, ◌≤◌, ◌≡◌, Bool, true, false, ◌&&◌, if◌then◌else◌, List, [], ◌∷◌, ◌++◌, length, Option, refl, sym, ap, subst, arith, append_assoc}
 use Rattle.std.specs.Prelude.{slice_index_or, ◌==◌, ◌%◌}
 use Rattle.std.specs.List.{list_any, remove}
 use Rattle.std.proofs.lemmas.Bool.{false≢true, and_parts, eq-eqb}
@@ -14,23 +14,10 @@ use Rattle.c_types.specs.Parameters.{declared_names}
 use Rattle.c_types.specs.Trees.{is_node, name_below}
 use Rattle.scope_bind.specs.declared.bound.Name.{Name}
 use Rattle.tree_laws.specs.TreesOfTexts.{token_count, AreFrom}
-use Rattle.reordered_tree_laws.specs.Premises.{is_item_production}
 use Rattle.template_rules.specs.ScopeOffences.{is_spelled_as, is_use}
 use Rattle.template_meaning.specs.Children.{children}
 use Rattle.template_meaning.proofs.Forms.{are_items, are_more, is_end, is_param}
 use Rattle.template_meaning.proofs.ItemUses.{IsWithin}
-
-not_so : (b : Bool) → (b ≡ true → ⊥) → b ≡ false
-not_so true h = absurd (h refl)
-not_so false h = refl
-
-not_false : (b : Bool) → b ≡ false → not b ≡ true
-not_false true e = absurd (false≢true (sym e))
-not_false false e = refl
-
-or_second : (a b : Bool) → b ≡ true → (a || b) ≡ true
-or_second true b e = refl
-or_second false b e = e
 
 if_is : {X : Type 0} (c : Bool) (x y : X) → c ≡ true → (if c then x else y) ≡ x
 if_is true x y e = refl
@@ -39,10 +26,6 @@ if_is false x y e = absurd (false≢true e)
 param_node : (q : Production) → is_param q ≡ true → ghosts.eq q Param ≡ true
 param_node Param e = refl
 param_node _ e = absurd (false≢true e)
-
-param_item : (q : Production) → is_param q ≡ true → is_item_production q ≡ true
-param_item Param e = refl
-param_item _ e = absurd (false≢true e)
 
 -- ---- The tokens of an item, between its separators
 

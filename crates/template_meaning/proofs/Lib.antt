@@ -2,6 +2,7 @@
 pub mod Children
 pub mod Forms
 pub mod Parens
+pub mod Editions
 pub mod Units
 pub mod Clear
 pub mod UnitLists

@@ -1,5 +1,5 @@
 -- The name of a list stands before its `(`.
-use Rattle.std.proofs.Common.{◌≡◌, ℕ, zero, suc, ◌+◌, ◌<◌, ◌≤◌, ◌⊎◌, inl, inr, Bool, true, false, if◌then◌else◌, List, [], ◌∷◌, ◌++◌, Option, None, Some, refl, sym, ap, subst, ◌∙◌, arith}
+use Rattle.std.proofs.Common.{◌≡◌, ℕ, zero, suc, ◌+◌, ◌<◌, ◌≤◌, ◌⊎◌, inl, inr, Bool, true, false, ◌||◌, if◌then◌else◌, List, [], ◌∷◌, ◌++◌, Option, None, Some, refl, sym, ap, subst, ◌∙◌, arith}
 use Rattle.std.specs.Prelude.{slice_get}
 use Rattle.std.specs.Option.{option_or}
 use Rattle.std.proofs.lemmas.Bool.{false≢true}
@@ -8,13 +8,13 @@ use Rattle.c99_grammar.specs.declared.dialects.Edition.{Edition}
 use Rattle.c99_tree.specs.Tree.{Forest, none, token, node}
 use Rattle.c99_tree.specs.declared.production.Label.{Label}
 use Rattle.c99_tree.specs.declared.production.Production.{Production}
-use Rattle.c99_tree.specs.declared.production.Production.TheVariants.{Declarator, Pointer, Direct, Suffix}
+use Rattle.c99_tree.specs.declared.production.Production.TheVariants.{Declarator, Pointer, Direct, Suffix, Attr, AsmName}
 use Rattle.c99_tree.specs.contracts.production.ProductionPartialEq.TheImpl.{ghosts}
 use Rattle.c99_grammar.specs.Items.{part, ◌·◌, many, own, deep, any_name, tok, plain, Alternative}
 use Rattle.c99_grammar.specs.declared.classes.Class.TheVariants.{LeftParen, RightParen}
 use Rattle.c99_grammar.specs.Standard.{iso}
 use Rattle.c_types.specs.Lists.{nearest_of}
-use Rattle.c_types.specs.Trees.{is_node, is_list, has_name, holds_name, name_below, first_token}
+use Rattle.c_types.specs.Trees.{is_node, is_list, is_aside, has_name, holds_name, name_below, first_token}
 use Rattle.tree_laws.specs.TreesOfTexts.{token_count, AreFrom}
 use Rattle.template_meaning.specs.Children.{Child, a_node, children, AreTimes, AreOfItem, EachNode, IsOfAlternative}
 use Rattle.template_meaning.proofs.Forms.{token_child, node_child, stands_alone}
@@ -42,17 +42,22 @@ some_name l p one_ = rw (p, one_) refl
 
 -- the list that stands nearest, at a pointer and at a part of a declarator
 near_pointer : (m : Label) (under rest : Forest) (z : Option (Option Forest)) → m.production ≡ Pointer
-    → (if is_node m Suffix then Some (if is_list m then Some under else None) else (if is_node m Pointer then option_or (nearest_of rest) (Some None) else option_or (nearest_of under) (nearest_of rest))) ≡ z
+    → (if is_node m Suffix then Some (if is_list m then Some under else None)
+    else (if is_node m Pointer then option_or (nearest_of rest) (Some None) else option_or (if is_aside m then None else nearest_of under) (nearest_of rest))) ≡ z
     → option_or (nearest_of rest) (Some None) ≡ z
 near_pointer m under rest z p e =
-    if_true (is_node m Pointer) (option_or (nearest_of rest) (Some None)) (option_or (nearest_of under) (nearest_of rest)) z (ap (λ (q : Production). ghosts.eq q Pointer) p)
+    if_true (is_node m Pointer) (option_or (nearest_of rest) (Some None)) (option_or (if is_aside m then None else nearest_of under) (nearest_of rest)) z (ap (λ (q : Production). ghosts.eq q Pointer) p)
     (if_false (is_node m Suffix) (Some (if is_list m then Some under else None)) _ z (ap (λ (q : Production). ghosts.eq q Suffix) p) e)
 
 near_part : (m : Label) (under rest : Forest) (z : Option (Option Forest)) (q : Production) → m.production ≡ q → ghosts.eq q Suffix ≡ false → ghosts.eq q Pointer ≡ false
-    → (if is_node m Suffix then Some (if is_list m then Some under else None) else (if is_node m Pointer then option_or (nearest_of rest) (Some None) else option_or (nearest_of under) (nearest_of rest))) ≡ z
+    → (ghosts.eq q Attr || ghosts.eq q AsmName) ≡ false
+    → (if is_node m Suffix then Some (if is_list m then Some under else None)
+    else (if is_node m Pointer then option_or (nearest_of rest) (Some None) else option_or (if is_aside m then None else nearest_of under) (nearest_of rest))) ≡ z
     → option_or (nearest_of under) (nearest_of rest) ≡ z
-near_part m under rest z q p no_suffix no_pointer e =
-    if_false (is_node m Pointer) (option_or (nearest_of rest) (Some None)) (option_or (nearest_of under) (nearest_of rest)) z (ap (λ (r : Production). ghosts.eq r Pointer) p ∙ no_pointer)
+near_part m under rest z q p no_suffix no_pointer no_aside e =
+    let inner : Bool → Option (Option Forest) = λ c. option_or (if c then None else nearest_of under) (nearest_of rest) in
+    ap inner (sym no_aside ∙ ap (λ (r : Production). ghosts.eq r Attr || ghosts.eq r AsmName) (sym p))
+    ∙ if_false (is_node m Pointer) (option_or (nearest_of rest) (Some None)) (inner (is_aside m)) z (ap (λ (r : Production). ghosts.eq r Pointer) p ∙ no_pointer)
     (if_false (is_node m Suffix) (Some (if is_list m then Some under else None)) _ z (ap (λ (r : Production). ghosts.eq r Suffix) p ∙ no_suffix) e)
 
 -- the name stands below the node
@@ -198,7 +203,7 @@ module _ (s : Edition) where
         declarator_before rest l (k + token_count under) name list d x.2 w.2 each.2 skip (pointer_near (nearest_of rest) list near)
     declarator_before (node m first under rest) l k name list (inr (p, last)) x w each n e =
         let below : name_below m under ≡ Some name = if_true (holds_name m.production) (name_below m under) (name_below l rest) (Some name) (ap holds_name p) n in
-        let near : option_or (nearest_of under) (nearest_of rest) ≡ Some (Some list) = near_part m under rest (Some (Some list)) Direct p refl refl e in
+        let near : option_or (nearest_of under) (nearest_of rest) ≡ Some (Some list) = near_part m under rest (Some (Some list)) Direct p refl refl refl e in
         let none_ : nearest_of rest ≡ None = ap nearest_of last in
         direct_before under m k name list p (direct_alternative m under x.0 p) x.1 w.1 each.1 below (by (nearest_of under) (ap (λ (o : Option (Option Forest)). option_or (nearest_of under) o) (sym none_) ∙ near))
       where
@@ -218,6 +223,6 @@ module _ (s : Edition) where
     direct_before (token i (node m first under (token j rest))) l k name list p (inr (two_, q)) x w each n e =
         let inner_name = if_false (has_name l) (Some i) (name_below l (node m first under (token j rest))) (Some name) (no_name l p two_) n in
         let below : name_below m under ≡ Some name = if_true (holds_name m.production) (name_below m under) (name_below l (token j rest)) (Some name) (ap holds_name q) inner_name in
-        let near : option_or (nearest_of under) (nearest_of (token j rest)) ≡ Some (Some list) = near_part m under (token j rest) (Some (Some list)) Declarator q refl refl e in
+        let near : option_or (nearest_of under) (nearest_of (token j rest)) ≡ Some (Some list) = near_part m under (token j rest) (Some (Some list)) Declarator q refl refl refl e in
         inner_before j rest m under (k + 1) name list w.1.1 w.1.2 each.1 each.2 below near
         (λ h. declarator_before under m (k + 1) name list (declarator_alternative m under x.0 q) x.1 w.1.1 each.1 below h)

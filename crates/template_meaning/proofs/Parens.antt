@@ -11,7 +11,7 @@ use Rattle.c_types.specs.declared.lists.List.{List as NameList}
 use Rattle.c_types.specs.declared.parameters.ParameterList.{ParameterList}
 use Rattle.c_types.specs.Lists.{list_of, call_in, calls_in, nearest_of, own_list, declarator_in, is_declaring, lists_in}
 use Rattle.c_types.specs.Parameters.{parameters_of, own_parameters, declarator_parameters, parameters_in}
-use Rattle.c_types.specs.Trees.{is_node, is_at, is_list, name_below, first_token}
+use Rattle.c_types.specs.Trees.{is_node, is_at, is_list, is_aside, name_below, first_token}
 use Rattle.tree_laws.specs.TreesOfTexts.{token_count, AreFrom}
 use Rattle.tree_laws.proofs.Lookups.{In}
 use Rattle.reordered_tree_laws.specs.Reordered.{is_parenthesised}
@@ -82,14 +82,6 @@ begins _ = false
 
 abbrev pub Begins : Label → Forest → Type 0
 Begins l under = is_parenthesised l ≡ true → begins under ≡ true
-
-pub entry_is : (f : Forest) (x : Entry) → In x (entries f) → x ≡ entry x.label x.under
-entry_is none x w = absurd w
-entry_is (token i rest) x w = entry_is rest x w
-entry_is (node l first under rest) x w = elim (in_split x (entry_of l under) (entries under ++ entries rest) w) [
-  | inl v ↦ let same = (in_if (is_parenthesised l) x (entry l under) v).1 in subst (λ (y : Entry). y ≡ entry y.label y.under) same refl
-  | inr v ↦ elim (in_split x (entries under) (entries rest) v) [ inl b ↦ entry_is under x b | inr b ↦ entry_is rest x b ]
-]
 
 -- ---- Where they begin
 
@@ -317,23 +309,23 @@ parameters_paired (node l first under rest) =
     (map_if (is_declaring l) parameters_by (pair_in under) (declarator_parameters under) (declarator_told under)) (parameters_paired under) (parameters_paired rest)
 
 -- the list that stands nearest to a name is one in parentheses
-nearest_node : (l : Label) (first : ℕ) (under rest list : Forest) → (nearest_of under ≡ Some (Some list) → IsEntry is_list under list)
+nearest_node : (l : Label) (first : ℕ) (under rest list : Forest) (near : Option (Option Forest)) → (near ≡ Some (Some list) → IsEntry is_list under list)
     → (nearest_of rest ≡ Some (Some list) → IsEntry is_list rest list) → (c b d : Bool) → is_list l ≡ b
-    → (if c then Some (if b then Some under else None) else (if d then option_or (nearest_of rest) (Some None) else option_or (nearest_of under) (nearest_of rest))) ≡ Some (Some list)
+    → (if c then Some (if b then Some under else None) else (if d then option_or (nearest_of rest) (Some None) else option_or near (nearest_of rest))) ≡ Some (Some list)
     → IsEntry is_list (node l first under rest) list
-nearest_node l first under rest list of_under of_rest true true d is same =
+nearest_node l first under rest list near of_under of_rest true true d is same =
     let there : In (entry l under) (entry_of l under) = if_in (is_parenthesised l) (entry l under) (or_right_is (is_at l Post 2) (is_list l) is) in
     let whole : IsEntry is_list (node l first under rest) under = record { label = l; passes = is; there = in_first (entry l under) (entry_of l under) (entries under ++ entries rest) there } in
     subst (IsEntry is_list (node l first under rest)) (same_Some under list (same_Some (Some under) (Some list) same)) whole
-nearest_node l first under rest list of_under of_rest true false d is same = absurd (cc)
-nearest_node l first under rest list of_under of_rest false b true is same = by (nearest_of rest) refl same
+nearest_node l first under rest list near of_under of_rest true false d is same = absurd (cc)
+nearest_node l first under rest list near of_under of_rest false b true is same = by (nearest_of rest) refl same
   where
     by : (o : Option (Option Forest)) → nearest_of rest ≡ o → option_or o (Some None) ≡ Some (Some list) → IsEntry is_list (node l first under rest) list
     by None at e = absurd (cc)
     by (Some z) at e = entered is_list rest (node l first under rest) list (behind_in l first under rest) (of_rest (at ∙ e))
-nearest_node l first under rest list of_under of_rest false b false is same = by (nearest_of under) refl same
+nearest_node l first under rest list near of_under of_rest false b false is same = by near refl same
   where
-    by : (o : Option (Option Forest)) → nearest_of under ≡ o → option_or o (nearest_of rest) ≡ Some (Some list) → IsEntry is_list (node l first under rest) list
+    by : (o : Option (Option Forest)) → near ≡ o → option_or o (nearest_of rest) ≡ Some (Some list) → IsEntry is_list (node l first under rest) list
     by None at e = entered is_list rest (node l first under rest) list (behind_in l first under rest) (of_rest e)
     by (Some z) at e = entered is_list under (node l first under rest) list (below_in l first under rest) (of_under (at ∙ e))
 
@@ -341,7 +333,12 @@ pub nearest_entry : (f list : Forest) → nearest_of f ≡ Some (Some list) → 
 nearest_entry none list e = absurd (cc)
 nearest_entry (token i rest) list e = let r = nearest_entry rest list e in record { label = r.label; passes = r.passes; there = r.there }
 nearest_entry (node l first under rest) list e =
-    nearest_node l first under rest list (nearest_entry under list) (nearest_entry rest list) (is_node l Suffix) (is_list l) (is_node l Pointer) refl e
+    nearest_node l first under rest list (if is_aside l then None else nearest_of under) (by (is_aside l) (nearest_entry under list)) (nearest_entry rest list)
+    (is_node l Suffix) (is_list l) (is_node l Pointer) refl e
+  where
+    by : (c : Bool) → (nearest_of under ≡ Some (Some list) → IsEntry is_list under list) → (if c then None else nearest_of under) ≡ Some (Some list) → IsEntry is_list under list
+    by true h at = absurd (cc)
+    by false h at = h at
 
 own_entry : (o : Option ℕ) (n : Option (Option Forest)) (p : Pair) → In p (own_pair o n) → n ≡ Some (Some p.under)
 own_entry None n p w = absurd w

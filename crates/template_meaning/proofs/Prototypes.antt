@@ -30,7 +30,8 @@ use Rattle.template_meaning.proofs.CanReorder.{is_clear, all_told}
 use Rattle.template_meaning.proofs.UnitCut.{read, declared, called}
 use Rattle.template_meaning.proofs.UnitItems.{pairs_declare}
 use Rattle.template_meaning.proofs.UnitLists.{declarator_is}
-use Rattle.template_meaning.proofs.Units.{IsReadSo, all_of_in}
+use Rattle.template_meaning.proofs.Units.{all_of_in}
+use Rattle.edited_unit_laws.proofs.EditionLemmas.{IsReadSo}
 
 in_of : {X : Type 0} (x : X) (xs : List X) (k : ℕ) → slice_get xs k ≡ Some x → tree.In x xs
 in_of x [] k e = absurd (cc)

@@ -23,7 +23,8 @@ use Rattle.reordered.specs.Reordered.{begins_list}
 use Rattle.template_meaning.specs.Lists.{IsCut, UnitsAreCut}
 use Rattle.template_meaning.proofs.Clear.{units_are_clear}
 use Rattle.template_meaning.proofs.UnitLists.{index_of, unit_many, unit_brackets, unit_first}
-use Rattle.template_meaning.proofs.Units.{IsReadSo, unit_read_so}
+use Rattle.template_meaning.proofs.Editions.{no_gnu_places}
+use Rattle.edited_unit_laws.proofs.EditionLemmas.{IsReadSo, unit_read_so}
 
 module _ (in_order : ReadParameterListsAreInOrder) (source : Source) (ws : WorkspaceValue) (a : AnalysisValue) (members : List Part) (order : List ℕ) (h : IsAccepted source ws a members order)
     (u : UnitAnalysis) (i : In u a.units) where
@@ -34,7 +35,7 @@ module _ (in_order : ReadParameterListsAreInOrder) (source : Source) (ws : Works
   clear = units_are_clear source ws a members order h u i
 
   pub read : IsReadSo u
-  read = unit_read_so source ws a h.analysed u i
+  read = unit_read_so source ws a h.analysed (no_gnu_places source ws a members order h) u i
 
   pub declared : (l : NameList) → tree.In l u.bound.declarators → IsOwn members u l → parameters_of (parameters_in u.tree.under) l.name ≡ length order
   declared l w own = let c = clear in let d = c.declarators l (index_of l u.bound.declarators w) own in let list = d.list in list.many ∙ count_is

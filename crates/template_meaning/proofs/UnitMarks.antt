@@ -63,7 +63,8 @@ use Rattle.template_meaning.proofs.Clear.{units_are_clear}
 use Rattle.template_meaning.proofs.Forms.{IsPair, call_pair, list_pair, args_items, params_items}
 use Rattle.template_meaning.proofs.Parens.{in_first, in_last, in_split, in_map, map_in, Entry, entry, entry_of, entries, Begins, calls_listed, parameters_by, pairs_entries}
 use Rattle.template_meaning.proofs.UnitLists.{any_in, index_of, in_filtered, filtered_in, declarator_is, parameters_found, bound_is, each_begins, one_of}
-use Rattle.template_meaning.proofs.Units.{IsReadSo, unit_read_so}
+use Rattle.template_meaning.proofs.Editions.{no_gnu_places}
+use Rattle.edited_unit_laws.proofs.EditionLemmas.{IsReadSo, unit_read_so}
 use Rattle.template_meaning.specs.Units.{own_lists, own_marks, run_cut, HavePrototypes, UnitHasLists, UnitsHaveLists}
 use Rattle.template_meaning.proofs.OwnNodes.{Ends, call_before, pair_before, call_ends, list_ends, args_commas, params_commas, args_woven, params_woven}
 use Rattle.template_meaning.proofs.TokenSigns.{open_at, close_at, comma_at}
@@ -164,7 +165,7 @@ module _ (in_order : ReadParameterListsAreInOrder) (cuts : UnitsAreCut) (source 
   clear = units_are_clear source ws a members order h u i
 
   pub read : IsReadSo u
-  read = unit_read_so source ws a h.analysed u i
+  read = unit_read_so source ws a h.analysed (no_gnu_places source ws a members order h) u i
 
   declared : (l : NameList) → In l u.bound.declarators → IsOwn members u l → lists.parameters_of (parameters_in T) l.name ≡ length order
   declared l w own = let c = clear in let d = c.declarators l (index_of l u.bound.declarators w) own in let list = d.list in list.many ∙ count_is

@@ -35,14 +35,15 @@ use Rattle.scope_bind.specs.declared.bound.Name.{Name}
 use Rattle.tree_laws.proofs.HeldNames.{bound_names_pass}
 use Rattle.tree_laws.proofs.NamesRead.{names_are_read}
 use Rattle.tree_laws.proofs.OfTexts.{trees_of_texts}
-use Rattle.analysis.specs.Analysis.{UnitAnalysis, UnitsValue, AnalysisValue, analysis_and, with_unit, unit_read, analysed_from, analysis_of, read_unit, bound_unit, unit_analysis}
-use Rattle.analysis.specs.Texts.{UnitFault, unit_fault, unit_with}
+use Rattle.analysis.specs.Analysis.{UnitAnalysis, AnalysisValue, analysis_of}
+use Rattle.analysis.specs.GnuUnits.{gnu_places}
 use Rattle.lexer.proofs.FitLemmas.{identifier-words}
 use Rattle.analysis.proofs.NamingLemmas.{split_at}
 use Rattle.expansion_laws.proofs.ListLemmas.{toks_at}
 use Rattle.edited_unit_laws.proofs.ListLemmas.{In, found}
+use Rattle.edited_unit_laws.proofs.EditionLemmas.{IsReadSo, unit_read_so}
 use Rattle.edited_unit_laws.proofs.TracedLemmas.{AreChained, Traced}
-use Rattle.edited_unit_laws.proofs.AnalysedUnitLemmas.{ok_same, done_first, unmapped, unit_is, unit_spelled, unit_traced}
+use Rattle.edited_unit_laws.proofs.AnalysedUnitLemmas.{unit_is, unit_spelled, unit_traced}
 use Rattle.template_rules.specs.Functions.{origin_of}
 
 -- ---- lists
@@ -75,52 +76,6 @@ bound_name names k e at = by (find (λ (n : Name). n.index == k) (reverse names)
     by (Some n) is f =
         let r = found (λ (m : Name). m.index == k) (reverse names) n is in
         (n, in_reverse n names r.0, eqb-true n.index k r.1, same_Some n.entity e f)
-
--- ---- reading and binding
-
--- The tokens of a unit are read to its tree (Annex A), and bound so (6.2).
-pub record IsReadSo (u : UnitAnalysis) : Type 0 where
-  pub reads : read_of (iso (edition u.standard)) u.text.toks ≡ Ok u.tree
-  pub binds : binding_of u.text.toks u.tree ≡ Ok u.bound
-
-one_read : (standard : Standard) (table : Table) (path : List ℕ) (text : UnitTextValue) (u : UnitAnalysis) → read_unit standard table path text ≡ Ok u → IsReadSo u
-one_read standard table path text u e =
-    let r = done_first {E = Fault} _ (bound_unit standard table path text) u e in
-    let b = done_first {E = Fault} _ (λ bound. Ok (unit_analysis standard text r.0 bound)) u r.2 in
-    let own : IsReadSo (unit_analysis standard text r.0 b.0) = record {
-      reads = unmapped (read_of (iso (edition standard)) text.toks) _ r.0 r.1;
-      binds = unmapped (binding_of text.toks r.0) _ b.0 b.1;
-    } in
-    subst IsReadSo (ok_same {E = Fault} (unit_analysis standard text r.0 b.0) u b.2) own
-
-units_read : (source : Source) (number : ℕ) (units : List UnitValue) (before : Carried) (v : UnitsValue)
-    → analysed_from source number units before ≡ Ok v → (u : UnitAnalysis) → In u v.units → IsReadSo u
-unfolding analysed_from
-units_read source number [] before v e =
-    let same = ok_same {E = UnitFault} _ v e in
-    let P : UnitsValue → Type 0 = λ w. (u : UnitAnalysis) → In u w.units → IsReadSo u in
-    subst P same (λ u i. absurd (let at = i.1 in cc))
-units_read source number (unit ∷ units) before v e =
-    let p = done_first (unit_with source number unit before) _ v e in
-    let u = done_first (unit_read unit.standard number unit.path p.0) _ v p.2 in
-    let later = done_first (analysed_from source (number + 1) units p.0.after) _ v u.2 in
-    let first = one_read unit.standard p.0.after.table unit.path p.0.text u.0 (unmapped (read_unit unit.standard p.0.after.table unit.path p.0.text) (unit_fault number) u.0 u.1) in
-    let rest = units_read source (number + 1) units p.0.after later.0 later.1 in
-    let same = ok_same {E = UnitFault} (with_unit u.0 later.0) v later.2 in
-    let P : UnitsValue → Type 0 = λ w. (x : UnitAnalysis) → In x w.units → IsReadSo x in
-    subst P same (λ x i. first_or u.0 later.0.units x i.0 i.1 first rest)
-  where
-    first_or : (one : UnitAnalysis) (others : List UnitAnalysis) (x : UnitAnalysis) (k : ℕ) → slice_get (one ∷ others) k ≡ Some x → IsReadSo one
-        → ((y : UnitAnalysis) → In y others → IsReadSo y) → IsReadSo x
-    first_or one others x zero at here rest = subst IsReadSo (same_Some one x at) here
-    first_or one others x (suc k) at here rest = rest x (k, at)
-
-pub unit_read_so : (source : Source) (ws : WorkspaceValue) (a : AnalysisValue) → analysis_of source ws ≡ Ok a → (u : UnitAnalysis) → In u a.units → IsReadSo u
-unit_read_so source ws a e =
-    let all = done_first (analysed_from source 1 ws.units nothing_carried) _ a e in
-    let same = ok_same {E = UnitFault} (analysis_and ws all.0.units all.0.table) a all.2 in
-    let P : AnalysisValue → Type 0 = λ b. (u : UnitAnalysis) → In u b.units → IsReadSo u in
-    subst P same (units_read source 1 ws.units nothing_carried all.0 all.1)
 
 -- ---- classes of tokens
 
@@ -186,7 +141,8 @@ named_fits : (k : Kind) (text : List ℕ) → signs.is_identifier k ≡ true →
 named_fits kind.Ident text h fit = fit
 named_fits _ text h fit = absurd (cc)
 
-module _ (source : Source) (ws : WorkspaceValue) (a : AnalysisValue) (analysed : analysis_of source ws ≡ Ok a) (u : UnitAnalysis) (i : In u a.units) where
+module _ (source : Source) (ws : WorkspaceValue) (a : AnalysisValue) (analysed : analysis_of source ws ≡ Ok a) (none : gnu_places a ≡ []) (u : UnitAnalysis)
+    (i : In u a.units) where
   -- the first character of an identifier has an origin
   pub token_placed : (k : ℕ) (t : Token) → slice_get u.text.toks k ≡ Some t → is_name t ≡ true → (p : Pos) × (origin_of u.text.toks k ≡ Some p)
   token_placed k t at named =
@@ -205,7 +161,7 @@ module _ (source : Source) (ws : WorkspaceValue) (a : AnalysisValue) (analysed :
       token_placed k t.0 t.1 t.2
 
   pub read_so : IsReadSo u
-  read_so = unit_read_so source ws a analysed u i
+  read_so = unit_read_so source ws a analysed none u i
 
   -- so it is with each name
   pub name_placed : (n : Name) → In n u.bound.names → (p : Pos) × (origin_of u.text.toks n.index ≡ Some p)

@@ -16,6 +16,7 @@ use Rattle.edited_unit_laws.proofs.AnalysedUnitLemmas.{unit_is, unit_spelled}
 use Rattle.list_cuts.specs.Cuts.{Cut, arranged}
 use Rattle.list_cuts.proofs.CutLemmas.{arranged-map}
 use Rattle.reordered_tree_laws.specs.Premises.{CanReorder, ReorderedBindAlike}
+use Rattle.reordered_tree_laws.specs.Reordered.{reordered}
 use Rattle.reordered_tree_laws.specs.ReorderedNames.{ReorderedNamesAgree}
 use Rattle.unit_laws.specs.Walking.{plains}
 use Rattle.reordered_text_laws.specs.Joined.{NamesAreSpelled, AreTokensInOrder, PlainTokensStandInOrder, ArrangedTextsAreRead, SpelledTextsHaveNames}
@@ -27,7 +28,8 @@ use Rattle.reordered.specs.Reordered.{begins_list, unit_cut}
 use Rattle.template_meaning.specs.Standing.{UnitGoesOn, UnitsGoOn}
 use Rattle.template_meaning.proofs.NamesGoOn.{have_bare_names, classes_move}
 use Rattle.template_meaning.proofs.UnitCut.{units_are_cut}
-use Rattle.template_meaning.proofs.Units.{IsReadSo, unit_read_so}
+use Rattle.template_meaning.proofs.Editions.{no_gnu_places}
+use Rattle.edited_unit_laws.proofs.EditionLemmas.{reads_by_edition, binds_by_edition, IsReadSo, unit_read_so}
 
 -- ---- Spellings
 
@@ -58,7 +60,7 @@ module _ (in_order : ReadParameterListsAreInOrder) (arranged_read : ArrangedText
     lists = begins_list members u
 
     is_read : IsReadSo u
-    is_read = unit_read_so source ws a h.analysed u i
+    is_read = unit_read_so source ws a h.analysed (no_gnu_places source ws a members order h) u i
 
     cut : IsCut members order u
     cut = units_are_cut in_order source ws a members order h u i
@@ -80,8 +82,9 @@ module _ (in_order : ReadParameterListsAreInOrder) (arranged_read : ArrangedText
         let b = bind_alike old new order lists u.tree u.bound of r.binds can texts in
         record {
           bound = b.bound;
-          reads = arranged_read (edition u.standard) (length order) order lists old new u.tree named same r.reads c.order_is c.each agree;
-          binds = b.told;
+          reads = reads_by_edition u.standard new r.not_gnu
+              ∙ arranged_read (edition u.standard) (length order) order lists old new u.tree named same r.reads c.order_is c.each agree;
+          binds = binds_by_edition u.standard new (reordered order lists u.tree) r.not_gnu ∙ b.told;
           names = record { entities = b.named; declares = b.declared; kinds = b.kinds; linkages = b.linked };
         }
 

@@ -4,10 +4,11 @@ use Rattle.std.specs.Prelude.{ℕ, ◌≡◌, List, [], length, Some, Ok}
 use Rattle.cs_base.specs.declared.positions.Part.{Part}
 use Rattle.cs_base.specs.declared.tokens.Kind.{Kind}
 use Rattle.cs_base.specs.Token.{Token}
-use Rattle.c99_grammar.specs.Dialects.{edition}
-use Rattle.c99_grammar.specs.Standard.{iso}
+use Rattle.c99_grammar.specs.Dialects.{dialect}
+use Rattle.c99_grammar.specs.Standard.{grammar}
 use Rattle.c99_read.specs.Reading.{read_of}
-use Rattle.scope_bind.specs.Bound.{Bound, binding_of}
+use Rattle.scope_bind.specs.Bound.{Bound}
+use Rattle.analysis.specs.Below.gnu_bind.Bound.{binding_by}
 use Rattle.source_files.specs.Files.{Source}
 use Rattle.source_files.specs.KeptFiles.{KeptValue, kept_at}
 use Rattle.unit_laws.specs.UnitLinks.{IsIn}
@@ -30,8 +31,8 @@ use Rattle.template_meaning.specs.Editing.{edit_by}
 -- name for name as before.
 pub record UnitGoesOn (members : List Part) (order : List ℕ) (u : UnitAnalysis) (toks : List Token) : Type 0 where
   pub bound : Bound
-  pub reads : read_of (iso (edition u.standard)) toks ≡ Ok (reordered order (begins_list members u) u.tree)
-  pub binds : binding_of toks (reordered order (begins_list members u) u.tree) ≡ Ok bound
+  pub reads : read_of (grammar (dialect u.standard)) toks ≡ Ok (reordered order (begins_list members u) u.tree)
+  pub binds : binding_by u.standard toks (reordered order (begins_list members u) u.tree) ≡ Ok bound
   pub names : NamesMove (moved_in members order u) (length u.text.toks) u.bound.names bound.names
 
 -- The law: so it is with each unit.

@@ -3,10 +3,10 @@
 //!
 //! `plan_template` takes an analysed workspace, a place in it, and the numbers of an order. It gives the edits of every
 //! file that holds a list of the functions which the place names, or says that the place names nothing or no function,
-//! that the numbers are no order, or which offence stands first: that is the work of `template_rules`. Over each source
-//! that has the analysis, once the edits are made, the workspace means what it meant (`ReordersOver` of
-//! `reordered`). It reads and writes no files. The law behind it is `orders_keep_meaning` of `template_meaning`:
-//! there the laws on units, runs and files meet.
+//! that the numbers are no order, or which offence stands first. Over each source that has the analysis, once the edits
+//! are made, the workspace means what it meant (`ReordersOver` of `reordered`). It reads and writes no files: `apply`
+//! of `edited_files` puts the edits. The law behind it is `orders_keep_meaning` of `template_meaning`: there the laws on
+//! units, runs and files meet.
 #![tactic(auto)]
 
 mod plan;

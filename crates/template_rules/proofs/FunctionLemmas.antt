@@ -1,10 +1,11 @@
 -- The functions that a class names, unit by unit.
 use Rattle.std.proofs.Common.{◌≡◌, ℕ, zero, suc, ◌+◌, ◌<◌, ◌≤◌, Bool, true, false, List, [], ◌∷◌, ◌++◌, length, take, get_or, Option, Some, None, slice_get, refl, sym, ap, subst, ◌∙◌, ◌⊎◌, inl, inr, arith}
-use Rattle.std.specs.Prelude.{◌==◌, ◌&&◌, ◌||◌, not}
+use Rattle.std.specs.Prelude.{◌==◌, ◌&&◌, ◌||◌, filter, map, not}
 use Rattle.std.specs.List.{list_any}
 use Rattle.std.proofs.Math.Bool.{or-false}
 use Rattle.std.proofs.lemmas.Bool.{cases_Bool, or_parts, or_cases, and_parts, eq-eqb, eqb-true, eqb-false, ne_eqb}
 use Rattle.std.proofs.lemmas.List.{length_push, take_all}
+use Rattle.std.proofs.lemmas.List.Elements.{filter-append}
 use Rattle.std.proofs.lemmas.List.Folds.{list_any_more, list_any-append}
 use Rattle.cs_base.specs.declared.positions.Part.{Part}
 use Rattle.cs_base.specs.Token.{Token}
@@ -144,3 +145,9 @@ pub some_functions : (class : ClassValue) (fs : List UnitFunctions) → AreUnits
 some_functions class fs are =
     units_any class fs are has_some (λ (u : UnitAnalysis). list_any (is_named class.members u.text.toks) u.bound.names)
     (λ u f own is. some_function f.class.members f.text.now.toks f.bound.now.names f.entities f.named ∙ rw (own, is.of_text, is.of_bound) refl)
+
+-- ---- the lists of functions, of declarators and then of calls
+
+pub all_named : {X Y : Type 0} (f : X → Y) (p : Y → Bool) (none one two : List X) (ds cs : List Y) → none ≡ [] → map f one ≡ map f none ++ filter p ds
+    → map f two ≡ map f one ++ filter p cs → map f two ≡ filter p (ds ++ cs)
+all_named f p none one two ds cs empty first second = rw (second, first, empty, filter-append p ds cs) refl

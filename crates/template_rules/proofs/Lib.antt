@@ -9,6 +9,15 @@ pub mod AskLemmas
 pub mod ItemLemmas
 pub mod MarkLemmas
 pub mod NumberLemmas
+pub mod HalvingLemmas
 pub mod OddLemmas
+pub mod LineLemmas
+pub mod FirstLineLemmas
+pub mod ToldLemmas
+pub mod LineOddsLemmas
+pub mod PlaceLemmas
+pub mod CalleeLemmas
+pub mod NameLemmas
+pub mod CoverLemmas
 pub mod ListLemmas
-pub mod PlanLemmas
+pub mod EditLemmas

@@ -1,10 +1,13 @@
 -- The lists in a file, one after another, and the edits of files.
-use Rattle.std.proofs.Common.{◌≡◌, ℕ, zero, suc, ◌+◌, ◌-◌, ◌<◌, ◌≤◌, Bool, true, false, List, [], ◌∷◌, ◌++◌, length, get_or, take, drop, Option, Some, None, Result, Ok, Err, slice_get, refl, sym, ap, ◌∙◌, append_assoc, append-nil, arith}
-use Rattle.std.specs.Prelude.{◌==◌, if◌then◌else◌, OnOk}
-use Rattle.std.specs.List.{flat_map}
+use Rattle.std.proofs.Common.{◌≡◌, ℕ, zero, suc, ◌+◌, ◌-◌, ◌<◌, ◌≤◌, Bool, true, false, List, [], ◌∷◌, ◌++◌, length, get_or, take, drop, Option, Some, None, Result, Ok, Err, slice_get, inl, inr, refl, sym, ap, ◌∙◌, append_assoc, append-nil, arith}
+use Rattle.std.specs.Prelude.{◌==◌, if◌then◌else◌, nat_lt, OnOk}
+use Rattle.std.specs.List.{flat_map, insert}
+use Rattle.std.specs.List.Sorted.{IsNonDecreasingBy}
 use Rattle.std.specs.Option.{option_map_or}
-use Rattle.std.proofs.lemmas.Bool.{eq-eqb}
-use Rattle.std.proofs.lemmas.List.{at_drop_more, at_drop_all, take_all}
+use Rattle.std.proofs.lemmas.Bool.{cases_Bool, eq-eqb, ltb-true, ltb-false}
+use Rattle.std.proofs.lemmas.List.{at_drop_more, at_drop_all}
+use Rattle.std.proofs.lemmas.List.Sorted.{IsNonDecreasingBy-insert, IsNonDecreasingBy-short}
+use Rattle.std.proofs.lemmas.List.Sums.{prefix_len-le-length, prefix_len_passes, prefix_len_stops}
 use Rattle.std.proofs.lemmas.Option.{slice_get-get_or}
 use Rattle.cs_base.specs.declared.positions.Part.{Part}
 use Rattle.cs_base.specs.Edit.{Edit, edit}
@@ -17,8 +20,8 @@ use Rattle.analysis.specs.Below.unit_steps.Texts.{UnitTextValue}
 use Rattle.analysis.specs.Below.scope_bind.Bound.{Bound}
 use Rattle.analysis.specs.Analysis.{UnitAnalysis, AnalysisValue}
 use Rattle.template_rules.specs.declared.file_lists.FoundList.{FoundList}
-use Rattle.template_rules.specs.FileLists.{all_found, function_list, unit_found, marks_in, with_list, with_lists, item_between, items_of, new_bytes, edit_for, edit_in, edits_from, edits_of}
-use Rattle.template_rules.proofs.PlanLemmas.{edit_for-some}
+use Rattle.template_rules.specs.FileLists.{all_found, begin_of, begins_at, place_for, function_list, unit_found, marks_in, with_list, with_lists, item_between, items_of, new_bytes, edit_for, edit_in, edits_from, edits_of}
+use Rattle.template_rules.proofs.EditLemmas.{edit_for-some}
 use Rattle.template_rules.proofs.StepLemmas.{flat_map-more}
 
 -- ---- lists of a file
@@ -51,12 +54,37 @@ pub lists_next : {X : Type 0} (f : X → List (List ℕ)) (xs : List X) (k : ℕ
 lists_next f xs k x first before now h is so_far here =
     rw (flat_map-more f xs k x h is, with_lists-append (flat_map f (take k xs)) (f x) first, ← so_far) here
 
-pub lists_all : {X : Type 0} (f : X → List (List ℕ)) (xs : List X) (k : ℕ) (first now : List (List ℕ)) → length xs ≤ k
-    → now ≡ with_lists (flat_map f (take k xs)) first → now ≡ with_lists (flat_map f xs) first
-lists_all f xs k first now past is = rw (← take_all k xs past) is
+-- ---- lists stand in the order in which they begin
 
-pub lists_both : (xs ys first between now : List (List ℕ)) → between ≡ with_lists xs first → now ≡ with_lists ys between → now ≡ with_lists (xs ++ ys) first
-lists_both xs ys first between now so_far here = rw (with_lists-append xs ys first, ← so_far) here
+module _ (l : List ℕ) (lists : List (List ℕ)) (rising : IsNonDecreasingBy begin_of lists) where
+  abbrev starts : List ℕ → Bool
+  starts m = nat_lt (begin_of m) (begin_of l)
+
+  abbrev place : ℕ
+  place = place_for (begin_of l) lists
+
+  put_rises : IsNonDecreasingBy begin_of (insert lists place l)
+  put_rises =
+      IsNonDecreasingBy-insert begin_of lists place l rising (prefix_len-le-length starts lists)
+      (λ j d less. let lower = ltb-true (begin_of (get_or lists j d)) (begin_of l) (prefix_len_passes starts lists j d less) in omega (arith, lower))
+      (λ j d on within.
+      let stop = ltb-false (begin_of (get_or lists place d)) (begin_of l) (prefix_len_stops starts lists d (omega (arith, on, within))) in
+      let up = rising place j d on within in
+      omega (arith, stop, up))
+
+  pub rises_with : IsNonDecreasingBy begin_of (with_list l lists)
+  rises_with = elim (cases_Bool (begins_at (begin_of l) lists place)) [
+    | inl there ↦ rw there rising
+    | inr new ↦ rw new put_rises
+  ]
+
+all_rise : (ls lists : List (List ℕ)) → IsNonDecreasingBy begin_of lists → IsNonDecreasingBy begin_of (with_lists ls lists)
+unfolding with_lists
+all_rise [] lists rising = rising
+all_rise (l ∷ ls) lists rising = all_rise ls (with_list l lists) (rises_with l lists rising)
+
+pub lists_rise : (ls lists : List (List ℕ)) → lists ≡ with_lists ls [] → IsNonDecreasingBy begin_of lists
+lists_rise ls lists is = rw is (all_rise ls [] (IsNonDecreasingBy-short begin_of [] (omega arith)))
 
 -- ---- items
 

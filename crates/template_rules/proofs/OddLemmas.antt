@@ -1,14 +1,17 @@
 -- Lines of the logical text, and the odd tokens of all files.
-use Rattle.std.proofs.Common.{◌≡◌, ℕ, zero, suc, ◌+◌, ◌-◌, ◌<◌, ◌≤◌, Bool, true, false, List, [], ◌∷◌, ◌++◌, length, get_or, drop, Option, Some, None, slice_get, refl, sym, ap, ◌∙◌, append_assoc, append-nil, inl, inr, arith}
-use Rattle.std.specs.Prelude.{◌==◌}
+use Rattle.std.proofs.Common.{◌≡◌, ℕ, zero, suc, ◌+◌, ◌-◌, ◌<◌, ◌≤◌, Bool, true, false, List, [], ◌∷◌, ◌++◌, length, get_or, drop, Option, Some, None, Ok, slice_get, refl, sym, ap, ◌∙◌, append_assoc, append-nil, inl, inr, arith}
+use Rattle.std.specs.Prelude.{◌==◌, ◌^◌, nat_lt, is_some}
 use Rattle.std.specs.List.{flat_map}
 use Rattle.std.specs.Option.{option_map, option_map_or}
 use Rattle.std.proofs.lemmas.Bool.{cases_Bool}
+use Rattle.std.proofs.lemmas.Bool.Decides.{nat_tests}
 use Rattle.std.proofs.lemmas.Grind.{flat_map-append}
 use Rattle.std.proofs.lemmas.List.{at_drop_more, at_drop_all}
 use Rattle.std.proofs.lemmas.Option.{slice_get-get_or}
 use Rattle.cs_base.specs.declared.positions.Pos.{Pos}
+use Rattle.cs_base.specs.Limits.{most_bytes}
 use Rattle.cs_base.specs.Token.{Token}
+use Rattle.analysis.specs.Below.lexer.FileText.{TextValue, file_text}
 use Rattle.analysis.specs.Below.lexer.Characters.{line_feed}
 use Rattle.analysis.specs.Below.lexer.Logical.{Character, character, logical_from, logical_of}
 use Rattle.analysis.specs.Below.lexer.Lines.{byte_offset_of}
@@ -95,6 +98,89 @@ line_feed_at bytes k b is =
     let same : c.0.offset - 0 ≡ b = omega (arith, c.2) in
     let byte : get_or bytes b 0 ≡ c.0.byte = ap (λ (n : ℕ). get_or bytes n 0) (sym same) ∙ at.byte in
     ap (λ (r : Option Character). option_map_or (λ (d : Character). d.byte == line_feed) r false) c.1 ∙ ap (λ (n : ℕ). n == line_feed) (sym byte)
+
+-- ---- how far characters go
+
+-- no character stands before its number
+character_after : (skip at k : ℕ) (bs : List ℕ) (c : Character) → slice_get (logical_from skip at bs) k ≡ Some c → at + k ≤ c.offset
+character_after skip at k [] c found =
+    let none = rw (logical_from-empty skip at) at found in absurd (nothing k c none)
+character_after skip at zero (b ∷ bs) c found = elim (cases_Bool (going skip b bs == 0)) [
+  | inl stays ↦
+      let here : Some (character b at) ≡ Some c = rw (logical_from-going skip at b bs, stays) at found in
+      let offset : at ≡ c.offset = ap (λ (d : Character). d.offset) (one (character b at) c here) in
+      omega (arith, offset)
+  | inr goes ↦
+      let there = rw (logical_from-going skip at b bs, goes) at found in
+      let later_ = character_after (going skip b bs - 1) (at + 1) zero bs c there in
+      omega (arith, later_)
+]
+character_after skip at (suc k) (b ∷ bs) c found = elim (cases_Bool (going skip b bs == 0)) [
+  | inl stays ↦
+      let there = rw (logical_from-going skip at b bs, stays) at found in
+      let later_ = character_after 0 (at + 1) k bs c there in
+      omega (arith, later_)
+  | inr goes ↦
+      let there = rw (logical_from-going skip at b bs, goes) at found in
+      let later_ = character_after (going skip b bs - 1) (at + 1) (suc k) bs c there in
+      omega (arith, later_)
+]
+
+pub character_behind : (bytes : List ℕ) (k b : ℕ) → byte_offset_of bytes k ≡ Some b → k ≤ b
+unfolding byte_offset_of logical_of
+character_behind bytes k b is =
+    let c = offset_some (slice_get (logical_of bytes) k) b is in
+    let at = character_after 0 0 k bytes c.0 c.1 in
+    omega (arith, at, c.2)
+
+few_bytes : (file : ℕ) (bytes : List ℕ) (text : TextValue) → file_text file bytes ≡ Ok text → length bytes ≤ most_bytes
+unfolding file_text
+few_bytes file bytes text is = elim (cases_Bool (nat_lt most_bytes (length bytes))) [
+  | inl large ↦ let wrong = rw large at is in absurd (cc)
+  | inr small ↦ grind (arith, nat_tests)
+]
+
+-- so a character has a number of 32 bits, and so has the one behind it
+pub character_fits : (file : ℕ) (bytes : List ℕ) (text : TextValue) (k b : ℕ) → file_text file bytes ≡ Ok text → byte_offset_of bytes k ≡ Some b
+    → k + 1 < 2 ^ 32
+character_fits file bytes text k b is found =
+    let few = few_bytes file bytes text is in
+    let on = character_behind bytes k b found in
+    let within = line_feed_within bytes k b found in
+    omega (arith, few, on, within)
+
+none_at : {X : Type 0} (xs : List X) (i k : ℕ) → slice_get xs i ≡ None → i ≤ k → slice_get xs k ≡ None
+none_at [] i zero none on = refl
+none_at [] i (suc k) none on = refl
+none_at (x ∷ xs) zero k none on = absurd (cc)
+none_at (x ∷ xs) (suc i) zero none on = absurd (omega (arith, on))
+none_at (x ∷ xs) (suc i) (suc k) none on = none_at xs i k none (omega (arith, on))
+
+nothing_there : (r : Option Character) → is_some (option_map (λ (c : Character). c.offset) r) ≡ false → r ≡ None
+nothing_there None is = refl
+nothing_there (Some c) is = absurd cc
+
+-- behind the last character no line feed stands
+pub no_line_feed_behind : (bytes : List ℕ) (at end : ℕ) → ((k : ℕ) → at ≤ k → k < end → is_line_feed_at bytes k ≡ false)
+    → is_some (byte_offset_of bytes end) ≡ false → (k : ℕ) → at ≤ k → is_line_feed_at bytes k ≡ false
+unfolding byte_offset_of
+no_line_feed_behind bytes at end free none k on = elim (cases_Bool (nat_lt k end)) [
+  | inl less ↦ free k on (grind (arith, nat_tests))
+  | inr other ↦
+      let past : end ≤ k = grind (arith, nat_tests) in
+      let gone : slice_get (logical_of bytes) k ≡ None = none_at (logical_of bytes) end k (nothing_there (slice_get (logical_of bytes) end) none) past in
+      rw gone refl
+]
+
+pub feeds_more : (bytes : List ℕ) (at end : ℕ) → (at ≤ end) × ((k : ℕ) → at ≤ k → k < end → is_line_feed_at bytes k ≡ false)
+    → is_line_feed_at bytes end ≡ false → (at ≤ end + 1) × ((k : ℕ) → at ≤ k → k < end + 1 → is_line_feed_at bytes k ≡ false)
+feeds_more bytes at end before here = (
+  (omega (arith, before.0)),
+  λ k on to. elim (cases_Bool (nat_lt k end)) [
+    | inl less ↦ before.1 k on (grind (arith, nat_tests))
+    | inr other ↦ let same : k ≡ end = grind (arith, nat_tests) in rw same here
+  ],
+)
 
 -- ---- all files
 

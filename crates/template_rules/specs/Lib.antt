@@ -10,5 +10,8 @@ pub mod LineOffences
 pub mod Offences
 pub mod FileLists
 pub mod Units
+pub mod ListPlaces
+pub mod Covers
 pub mod Asking
+pub mod OddLines
 pub mod Template

@@ -87,7 +87,10 @@ unfoldable pub soonest : Table → Option Declarator → List Declarator → Opt
 soonest table best [] = best
 soonest table best (d ∷ ds) = soonest table (Some (sooner table best d)) ds
 
--- The number of parameters of the first declarator by its place.
+-- The first declarator by its place.
+abbrev pub first_declarator : AnalysisValue → List Part → Option Declarator
+first_declarator a members = soonest a.table None (flat_map (declarators_in members) a.units)
+
+-- The number of its parameters.
 abbrev pub count_of : AnalysisValue → List Part → ℕ
-count_of a members =
-    option_map_or (λ (d : Declarator). d.count) (soonest a.table None (flat_map (declarators_in members) a.units)) 0
+count_of a members = option_map_or (λ (d : Declarator). d.count) (first_declarator a members) 0

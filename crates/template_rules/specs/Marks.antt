@@ -1,8 +1,9 @@
 -- What the marks of a list say against a new order of its items (this project's): it stands in a file that is not edited,
--- it goes on behind a directive, or it has another length. A list's place is that of its name.
-use Rattle.std.specs.Prelude.{ℕ, ◌==◌, ◌&&◌, nat_le, nat_lt, if◌then◌else◌, Bool, List, [], ◌∷◌, ◌++◌}
+-- it is one of `main`, it goes on behind a directive, or it has another length. A list's place is that of its name.
+use Rattle.std.specs.Prelude.{ℕ, ◌==◌, ◌&&◌, nat_le, nat_lt, if◌then◌else◌, Bool, List, [], ◌∷◌, ◌++◌, codes}
 use Rattle.std.specs.List.{flat_map, list_any}
 use Rattle.std.specs.Option.{option_map_or}
+use Rattle.std.specs.Str.{bytes_eq}
 use Rattle.cs_base.specs.declared.causes.Cause.TheVariants as cause
 use Rattle.cs_base.specs.declared.positions.Part.{Part}
 use Rattle.cs_base.specs.declared.positions.Pos.{Pos}
@@ -11,6 +12,7 @@ use Rattle.analysis.specs.Below.unit_steps.declared.events.Reached.{Reached}
 use Rattle.c_types.specs.declared.lists.List.{List as NameList}
 use Rattle.c_types.specs.declared.parameters.ParameterList.{ParameterList}
 use Rattle.c_types.specs.Parameters.{parameters_in}
+use Rattle.c_types.specs.Declarations.{spelling_at}
 use Rattle.analysis.specs.Below.scope_bind.declared.bound.Name.{Name}
 use Rattle.analysis.specs.Analysis.{UnitAnalysis, AnalysisValue}
 use Rattle.analysis.specs.Places.{is_read_only}
@@ -42,13 +44,22 @@ across_place toks reached l = if is_across reached l then place_of toks l.name e
 abbrev pub count_place : ℕ → ℕ → List Token → NameList → List Pos
 count_place count length toks l = if length == count then [] else place_of toks l.name
 
+-- token k is spelled as the function that is called at program startup
+abbrev pub is_main : List Token → ℕ → Bool
+is_main toks k = bytes_eq (spelling_at toks k) (codes "main")
+
+-- Reserved: the name of a list of such a function, whose parameters have their meaning from without (5.1.2.2.1)
+abbrev pub main_place : List Token → NameList → List Pos
+main_place toks l = if is_main toks l.name then place_of toks l.name else []
+
 -- ---- lists
 
 -- those at a list of so many items
 abbrev pub mark_offences : AnalysisValue → ℕ → List Token → List Reached → ℕ → NameList → List Offence
 mark_offences a count toks reached length l =
     standing cause.ReadOnly (read_only_place a toks l)
-    ++ (standing cause.AcrossDirective (across_place toks reached l) ++ standing cause.ArgumentCount (count_place count length toks l))
+    ++ (standing cause.Reserved (main_place toks l)
+    ++ (standing cause.AcrossDirective (across_place toks reached l) ++ standing cause.ArgumentCount (count_place count length toks l)))
 
 -- those at the parameter list of a declarator, if it is one of a function that the class names
 abbrev pub declarator_marks : List Part → AnalysisValue → ℕ → List Token → List Reached → List Name → List ParameterList → NameList → List Offence

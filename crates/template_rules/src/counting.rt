@@ -1,6 +1,6 @@
 // How many parameters the functions have that a class names.
-ghost use Rattle.std.specs.Prelude.{◌≡◌, ◌+◌, None};
-ghost use Rattle.template_rules.specs.Lists.{has_types, declarations_in, parameters_at, parameters_of, arguments_of, declarator_of, declarators_in, sooner, soonest, count_of};
+ghost use Rattle.std.specs.Prelude.{◌≡◌, ◌+◌};
+ghost use Rattle.template_rules.specs.Lists.{has_types, declarations_in, parameters_at, parameters_of, arguments_of, declarator_of, declarators_in, sooner, soonest, first_declarator, count_of};
 ghost use Rattle.std.specs.List.{flat_map};
 ghost use Rattle.std.specs.Option.{option_copied};
 
@@ -124,10 +124,9 @@ fn with_names(
     now
 }
 
-// Of all units the first declarator of a function.
-fn first_declarator(functions: &Functions<'_>) -> Option<Declarator>
-    ensures { result ≡ soonest functions.now.analysis.value.table None
-        (flat_map (declarators_in functions.now.members) functions.now.analysis.value.units) }
+/// Of all units the first declarator of a function.
+pub fn first_declarator(functions: &Functions<'_>) -> Option<Declarator>
+    ensures { result ≡ first_declarator functions.now.analysis.value functions.now.members }
 {
     let a = functions.analysis();
     let mut best = None;

@@ -75,7 +75,7 @@ fn put_numbered(
 }
 
 /// The edits of all files that hold a list.
-pub(crate) fn edit_files(
+pub fn edit_files(
     alloc: Global,
     functions: &Functions<'_>,
     order: &[usize],

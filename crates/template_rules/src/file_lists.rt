@@ -1,12 +1,15 @@
 // The lists of functions in files, and the bytes of their items.
-ghost use Rattle.std.specs.Prelude.{◌≡◌, ◌+◌, ◌-◌, ◌<◌, ◌^◌, ◌++◌, ◌∷◌, [], if◌then◌else◌, map, slice_get, IfOk, OnOk};
+ghost use Rattle.std.specs.Prelude.{◌≡◌, ◌+◌, ◌-◌, ◌<◌, ◌^◌, ◌++◌, ◌∷◌, [], true, if◌then◌else◌, map, slice_get, IfOk, OnOk};
 ghost use Rattle.std.specs.List.{flat_map};
+ghost use Rattle.std.specs.List.Sorted.{IsNonDecreasingBy};
 ghost use Rattle.std.specs.Option.{option_map_or};
 ghost use Rattle.analysis.specs.Below.lexer.Tokens.{tokens_of};
-ghost use Rattle.template_rules.specs.FileLists.{characters_of, found_in, function_list, all_found, marks_in, begin_of, place_for, begins_at, with_list, with_lists, lists_in, begun_by, begun_before, byte_in, first_byte, end_byte, item_between, items_of};
+ghost use Rattle.template_rules.specs.ListPlaces.{AreInOrder};
+ghost use Rattle.template_rules.specs.FileLists.{characters_of, found_in, function_list, all_found, marks_in, begin_of, place_for, begins_at, with_list, with_lists, lists_in, byte_in, first_byte, end_byte, item_between, items_of};
 ghost use Rattle.template_rules.specs.Lists.{separators};
 ghost use Rattle.template_rules.specs.Units.{found_of};
 
+use crate::begun_tokens::{are_in_order, begun_before, begun_by};
 use crate::functions::Functions;
 use crate::places::origin_of;
 use crate::unit_functions::{UnitFunctions, names_function};
@@ -70,10 +73,12 @@ fn begin_of(list: &Indices) -> u32
     }
 }
 
+// How many lists, which stand in the order in which they begin, begin before a character.
 fn place_for(lists: &[Indices], at: u32) -> usize
+    requires { IsNonDecreasingBy begin_of lists.now }
     ensures { result ≡ place_for at lists.now }
 {
-    lists.iter().take_while(|list| begin_of(list) < at).count()
+    lists.partition_point(|list| begin_of(list) < at)
 }
 
 fn begins_at(lists: &[Indices], at: u32, k: usize) -> bool
@@ -87,6 +92,7 @@ fn begins_at(lists: &[Indices], at: u32, k: usize) -> bool
 
 // Lists in the order in which they begin, once this one is among them.
 fn put_list(lists: &mut Vec<Indices>, list: Indices) -> Result<(), Memory>
+    requires { IsNonDecreasingBy begin_of lists.old.items }
     ensures { OnOk result (lists.new.items ≡ with_list list lists.old.items) }
 {
     let at = begin_of(&list);
@@ -186,6 +192,7 @@ fn put_found(
     file: u32,
     found: &FoundList,
 ) -> Result<(), Memory>
+    requires { IsNonDecreasingBy begin_of lists.old.items }
     ensures { OnOk result (lists.new.items ≡ with_lists (marks_in file found.now) lists.old.items) }
 {
     if found.file == file {
@@ -209,32 +216,6 @@ pub(crate) fn lists_in(
         put_found(alloc, &mut lists, file, one)?;
     }
     Ok(lists)
-}
-
-// How many tokens of a file begin up to a character.
-fn begun_by(toks: &[Tok], at: u32) -> usize
-    ensures { result ≡ begun_by toks.now at }
-{
-    let mut count = 0;
-    for tok in toks {
-        if tok.at().at <= at {
-            count += 1;
-        }
-    }
-    count
-}
-
-// How many begin before one.
-fn begun_before(toks: &[Tok], at: u32) -> usize
-    ensures { result ≡ begun_before toks.now at }
-{
-    let mut count = 0;
-    for tok in toks {
-        if tok.at().at < at {
-            count += 1;
-        }
-    }
-    count
 }
 
 // The byte at a position of a file.
@@ -271,12 +252,13 @@ fn end_byte(file: &KeptFile, tok: &Tok) -> usize
 }
 
 // The item behind one character and before another.
-fn item_between(file: &KeptFile, after: u32, before: u32) -> Span
+fn item_between(file: &KeptFile, after: u32, before: u32, rises: bool) -> Span
+    requires { rises ≡ true → AreInOrder (tokens_of file.now.number file.now.bytes) }
     ensures { result ≡ item_between file.now.bytes (tokens_of file.now.number file.now.bytes) after before }
 {
     let toks = file.text().toks();
-    let first = begun_by(toks, after);
-    let begun = begun_before(toks, before);
+    let first = begun_by(toks, after, rises);
+    let begun = begun_before(toks, before, rises);
     let last = if begun > 0 { begun - 1 } else { 0 };
     let begin = match toks.get(first) {
         Some(tok) => first_byte(file, tok),
@@ -290,13 +272,14 @@ fn item_between(file: &KeptFile, after: u32, before: u32) -> Span
 }
 
 // The items of a list.
-fn items_of(alloc: Global, file: &KeptFile, list: &[u32]) -> Result<ListSpans, Memory>
+fn items_of(alloc: Global, file: &KeptFile, list: &[u32], rises: bool) -> Result<ListSpans, Memory>
+    requires { rises ≡ true → AreInOrder (tokens_of file.now.number file.now.bytes) }
     ensures { IfOk result (λ spans. spans ≡ items_of file.now.bytes (tokens_of file.now.number file.now.bytes) list.now) }
 {
     let mut items = Vec::new(alloc);
     let mut k = 1;
     'items: while k < list.len() {
-        items.push(item_between(file, list[k - 1], list[k]))?;
+        items.push(item_between(file, list[k - 1], list[k], rises))?;
         k += 1;
     }
     Ok(ListSpans::new(items))
@@ -310,9 +293,10 @@ pub(crate) fn spans_of(
 ) -> Result<Vec<ListSpans>, Memory>
     ensures { IfOk result (λ spans. spans.items ≡ map (items_of file.now.bytes (tokens_of file.now.number file.now.bytes)) lists.now) }
 {
+    let rises = are_in_order(file.text().toks());
     let mut spans = Vec::new(alloc);
     for list in lists {
-        spans.push(items_of(alloc, file, list.as_slice())?)?;
+        spans.push(items_of(alloc, file, list.as_slice(), rises)?)?;
     }
     Ok(spans)
 }

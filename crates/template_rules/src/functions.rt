@@ -8,7 +8,9 @@ ghost use Rattle.template_rules.specs.Functions.{holds_at, is_named, has_functio
 ghost use Rattle.template_rules.specs.Units.{AreOfTree, AreUnits, IsUnitAt, has_some};
 
 use crate::body_lists::body_lists;
-use crate::unit_functions::{UnitFunctions, has, push_named};
+use crate::covers::Covers;
+use crate::run_list::Runs;
+use crate::unit_functions::{UnitFunctions, by_place, has, push_named};
 use analysis::{Analysis, Name};
 use c_types::{EntityKind, Indices, ParameterList, parameter_lists};
 use cs_base::{Memory, Part, Tok};
@@ -46,7 +48,8 @@ impl<'a> Functions<'a> {
         &self.class
     }
 
-    pub(crate) fn analysis(&self) -> &'a Analysis
+    /// The analysis that they are of.
+    pub fn analysis(&self) -> &'a Analysis
         ensures { result.now ≡ self.now.analysis }
     {
         self.class.analysis()
@@ -162,6 +165,9 @@ fn unit_at<'a>(
     let mut found = Vec::new(alloc);
     push_named(&mut found, bound, entities.as_slice(), bound.declarators())?;
     push_named(&mut found, bound, entities.as_slice(), bound.calls())?;
+    let by_place = by_place(alloc, text.toks(), &found)?;
+    let covers = Covers::new(alloc, &found)?;
+    let runs = Runs::new(text.reached());
     Ok(UnitFunctions {
         class,
         text,
@@ -170,6 +176,9 @@ fn unit_at<'a>(
         lists,
         ends,
         found,
+        by_place,
+        covers,
+        runs,
     })
 }
 

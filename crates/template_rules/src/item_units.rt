@@ -5,7 +5,6 @@ ghost use Rattle.template_rules.specs.MacroOffences.{is_item};
 ghost use Rattle.template_rules.specs.Asking.{NoneBefore, NoneFrom, AreWithin};
 
 use crate::functions::Functions;
-use crate::list_macros::item_of;
 use crate::unit_functions::{UnitFunctions, names_function};
 use analysis::Reached;
 use c_types::List;
@@ -121,7 +120,7 @@ pub(crate) fn units_at(
     if !names_function(unit, list.name) {
         return near;
     }
-    match item_of(unit.text.reached(), list.name) {
+    match unit.runs.item_of(list.name) {
         Some(item) => units_for(functions, item, near),
         None => near,
     }

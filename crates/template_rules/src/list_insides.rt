@@ -1,19 +1,23 @@
 // What happens inside lists that stands against a new order.
-ghost use Rattle.std.specs.Prelude.{◌≡◌, ◌++◌};
+ghost use Rattle.std.specs.Borrow.{Bor};
+ghost use Rattle.std.specs.Prelude.{◌≡◌, ◌++◌, List};
 ghost use Rattle.std.specs.List.{flat_map};
+ghost use Rattle.c_types.specs.declared.lists.List.{List as NameList};
 ghost use Rattle.cs_base.specs.declared.causes.Cause.TheVariants as cause;
 ghost use Rattle.offences.specs.First.{standing, FirstThen};
 ghost use Rattle.template_rules.specs.Insides.{list_insides, all_insides};
+ghost use Rattle.template_rules.specs.ListPlaces.{HaveSame};
 ghost use Rattle.template_rules.specs.MacroOffences.{is_line_number, line_number_place};
 ghost use Rattle.template_rules.specs.ScopeOffences.{is_type_or_constant, is_function_word, declares_more, declaration_place};
 
+use crate::covers::Covers;
 use crate::dependences::spelling_at;
 use crate::functions::Functions;
 use crate::macro_names::is_replacing;
 use crate::places::at_token;
 use crate::unit_functions::UnitFunctions;
 use analysis::{Analysis, Event, Name};
-use c_types::{EntityKind, List};
+use c_types::EntityKind;
 use cs_base::{Cause, Tok};
 use offences::{Offence, first_with};
 
@@ -33,49 +37,35 @@ fn is_line_number(event: &Event) -> bool
     }
 }
 
-// `LineNumber` at an event, if it happens inside a list.
-fn line_number_at(
+// `LineNumber` at an event that happens inside one of these lists.
+fn line_number_in(
     a: &Analysis,
     event: &Event,
-    list: &List,
+    lists: &Covers<'_>,
     first: Option<Offence>,
 ) -> Option<Offence>
-    ensures { FirstThen a.now.value.table (standing cause.LineNumber (line_number_place list.now event.now)) first result }
+    ensures { (ls : List (Bor NameList)) → HaveSame ls lists.now.lists.items
+        → FirstThen a.now.value.table (flat_map (λ (l : Bor NameList). standing cause.LineNumber (line_number_place l.now event.now)) ls) first result }
 {
-    if list.begin < event.before && event.before <= list.close && is_line_number(event) {
+    if !is_line_number(event) {
+        return first;
+    }
+    if lists.holds(event.before, event.before as u64) {
         first_with(a, first, event.at, Cause::LineNumber)
     } else {
         first
     }
 }
 
-// The same in each of these lists. They are looked through only for an event that replaces `__LINE__`.
-fn line_number_in(
-    a: &Analysis,
-    event: &Event,
-    lists: &[&List],
-    first: Option<Offence>,
-) -> Option<Offence>
-    ensures { FirstThen a.now.value.table (flat_map (λ l. standing cause.LineNumber (line_number_place l.now event.now)) lists.now) first result }
-{
-    if !is_line_number(event) {
-        return first;
-    }
-    let mut now = first;
-    for list in lists {
-        now = line_number_at(a, event, list, now);
-    }
-    now
-}
-
 // The same at each event.
 fn line_numbers_at(
     a: &Analysis,
     events: &[Event],
-    lists: &[&List],
+    lists: &Covers<'_>,
     first: Option<Offence>,
 ) -> Option<Offence>
-    ensures { FirstThen a.now.value.table (flat_map (λ e. flat_map (λ l. standing cause.LineNumber (line_number_place l.now e)) lists.now) events.now)
+    ensures { (ls : List (Bor NameList)) → HaveSame ls lists.now.lists.items
+        → FirstThen a.now.value.table (flat_map (λ e. flat_map (λ (l : Bor NameList). standing cause.LineNumber (line_number_place l.now e)) ls) events.now)
         first result }
 {
     let mut now = first;
@@ -111,42 +101,25 @@ fn declares_more(toks: &[Tok], name: Name) -> bool
             || (is_function_word(toks, name.index) || name.entity != name.index))
 }
 
-// `DeclarationInArgument` at a name, if it declares such a thing inside a list.
-fn declaration_at(
-    a: &Analysis,
-    toks: &[Tok],
-    name: Name,
-    list: &List,
-    first: Option<Offence>,
-) -> Option<Offence>
-    ensures { FirstThen a.now.value.table (standing cause.DeclarationInArgument (declaration_place toks.now list.now name)) first result }
-{
-    if list.begin < name.index && name.index < list.close && declares_more(toks, name) {
-        at_token(a, toks, name.index, Cause::DeclarationInArgument, first)
-    } else {
-        first
-    }
-}
-
-// The same in each of these lists. They are looked through only for a name that declares such a thing.
+// `DeclarationInArgument` at a name that declares such a thing inside one of these lists.
 fn declaration_in(
     a: &Analysis,
     toks: &[Tok],
     name: Name,
-    lists: &[&List],
+    lists: &Covers<'_>,
     first: Option<Offence>,
 ) -> Option<Offence>
-    ensures { FirstThen a.now.value.table
-        (flat_map (λ l. standing cause.DeclarationInArgument (declaration_place toks.now l.now name)) lists.now) first result }
+    ensures { (ls : List (Bor NameList)) → HaveSame ls lists.now.lists.items → FirstThen a.now.value.table
+        (flat_map (λ (l : Bor NameList). standing cause.DeclarationInArgument (declaration_place toks.now l.now name)) ls) first result }
 {
     if !declares_more(toks, name) {
         return first;
     }
-    let mut now = first;
-    for list in lists {
-        now = declaration_at(a, toks, name, list, now);
+    if lists.holds(name.index, name.index as u64 + 1) {
+        at_token(a, toks, name.index, Cause::DeclarationInArgument, first)
+    } else {
+        first
     }
-    now
 }
 
 // The same at each name.
@@ -154,11 +127,11 @@ fn declarations_at(
     a: &Analysis,
     toks: &[Tok],
     names: &[Name],
-    lists: &[&List],
+    lists: &Covers<'_>,
     first: Option<Offence>,
 ) -> Option<Offence>
-    ensures { FirstThen a.now.value.table
-        (flat_map (λ n. flat_map (λ l. standing cause.DeclarationInArgument (declaration_place toks.now l.now n)) lists.now) names.now)
+    ensures { (ls : List (Bor NameList)) → HaveSame ls lists.now.lists.items → FirstThen a.now.value.table
+        (flat_map (λ n. flat_map (λ (l : Bor NameList). standing cause.DeclarationInArgument (declaration_place toks.now l.now n)) ls) names.now)
         first result }
 {
     let mut now = first;
@@ -180,8 +153,14 @@ fn insides_at(a: &Analysis, unit: &UnitFunctions<'_>, first: Option<Offence>) ->
     if lists.is_empty() {
         return first;
     }
-    let numbered = line_numbers_at(a, unit.text.events(), lists, first);
-    declarations_at(a, unit.text.toks(), unit.bound.names(), lists, numbered)
+    let numbered = line_numbers_at(a, unit.text.events(), &unit.covers, first);
+    declarations_at(
+        a,
+        unit.text.toks(),
+        unit.bound.names(),
+        &unit.covers,
+        numbered,
+    )
 }
 
 /// `LineNumber`, at each `__LINE__` that is replaced by a line's number inside a list; `DeclarationInArgument`, at each

@@ -1,18 +1,20 @@
 // Lists that come from macros, or that are none in some processing of their text.
-ghost use Rattle.std.specs.Prelude.{◌≡◌, ◌+◌, ◌<◌, ◌-◌, ◌==◌, true, false, length, slice_get};
+ghost use Rattle.std.specs.Prelude.{◌≡◌, ◌+◌, ◌<◌, ◌-◌, ◌==◌, true, false, length, nat_lt, slice_get};
 ghost use Rattle.std.specs.List.{list_any, list_all};
 ghost use Rattle.std.specs.Option.{option_copied, option_map_or};
 ghost use Rattle.cs_base.specs.declared.causes.Cause.TheVariants as cause;
 ghost use Rattle.list_cuts.specs.Cuts.{numbers};
 ghost use Rattle.offences.specs.First.{standing, FirstThen};
 ghost use Rattle.template_rules.specs.Lists.{each_mark, some_mark};
-ghost use Rattle.template_rules.specs.MacroOffences.{is_direct, is_direct_at, is_pos, is_same, are_same, is_same_list, run_of, item_of, is_item, is_mark_in, is_list_at, is_list_in, is_list_as, is_list_through, is_list_for, is_mark_everywhere, macro_place};
+ghost use Rattle.template_rules.specs.MacroOffences.{is_direct, is_direct_at, is_pos, is_same, are_same, is_same_list, is_item, is_mark_in, is_list_at, is_list_in, is_list_as, is_list_through, is_list_for, is_mark_everywhere, macro_place};
 ghost use Rattle.template_rules.specs.Asking.{asks, is_of_run, AreWithin};
+ghost use Rattle.template_rules.specs.ListPlaces.{name_number};
 
 use crate::functions::Functions;
 use crate::item_units::{ItemUnits, is_between, is_item};
 use crate::places::{at_token, origin_of};
-use crate::unit_functions::{UnitFunctions, names_function};
+use crate::run_list::Runs;
+use crate::unit_functions::{UnitFunctions, lists_before, name_number, names_function};
 use analysis::Reached;
 use c_types::List;
 use cs_base::{Cause, Pos, Tok};
@@ -82,47 +84,15 @@ fn is_same_list(toks: &[Tok], others: &[Tok], list: &List, other: &List) -> bool
                 )))
 }
 
-// How many items were reached before token `k` was put out.
-fn run_of(reached: &[Reached], k: u32) -> usize
-    ensures { result ≡ run_of reached.now k }
-{
-    let mut count = 0;
-    for item in reached {
-        if item.before <= k {
-            count += 1;
-        }
-    }
-    count
-}
-
-// The item that was reached as this one, counted from 1.
-fn item_at(reached: &[Reached], number: usize) -> Option<Reached>
-    ensures { result ≡ slice_get reached.now (number - 1) }
-{
-    let place = if number > 0 { number - 1 } else { 0 };
-    if place < reached.len() {
-        Some(reached[place])
-    } else {
-        None
-    }
-}
-
-/// The item for which token `k` was put out.
-pub(crate) fn item_of(reached: &[Reached], k: u32) -> Option<Reached>
-    ensures { result ≡ item_of reached.now k }
-{
-    item_at(reached, run_of(reached, k))
-}
-
-fn is_mark_in(toks: &[Tok], reached: &[Reached], at: Option<Pos>, number: usize, k: u32) -> bool
+fn is_mark_in(toks: &[Tok], reached: &Runs<'_>, at: Option<Pos>, number: usize, k: u32) -> bool
     ensures { result ≡ is_mark_in toks.now reached.now at number k }
 {
-    is_same(origin_of(toks, k), at) && run_of(reached, k) == number
+    is_same(origin_of(toks, k), at) && reached.run_of(k) == number
 }
 
 fn is_one_in(
     toks: &[Tok],
-    reached: &[Reached],
+    reached: &Runs<'_>,
     at: Option<Pos>,
     number: usize,
     indices: &[u32],
@@ -135,7 +105,7 @@ fn is_one_in(
 }
 
 // Whether a mark of a list stands at a position, and was put out for this item.
-fn has_mark(toks: &[Tok], reached: &[Reached], at: Option<Pos>, number: usize, list: &List) -> bool
+fn has_mark(toks: &[Tok], reached: &Runs<'_>, at: Option<Pos>, number: usize, list: &List) -> bool
     ensures { result ≡ some_mark (is_mark_in toks.now reached.now at number) list.now }
 {
     is_mark_in(toks, reached, at, number, list.name)
@@ -158,21 +128,29 @@ fn is_list_at(
     let others = unit.text.toks();
     is_same_list(toks, others, list, other)
         && (names_function(unit, other.name)
-            && has_mark(
-                others,
-                unit.text.reached(),
-                origin_of(toks, k),
-                number,
-                other,
-            ))
+            && has_mark(others, &unit.runs, origin_of(toks, k), number, other))
 }
 
-// Whether a unit has such a list for a reached item.
+// Whether the name of a list has a higher number than this.
+fn is_past(toks: &[Tok], list: &List, number: u64) -> bool
+    ensures { result ≡ nat_lt number (name_number toks.now list.now) }
+{
+    number < name_number(toks, list)
+}
+
+// Whether a unit has such a list for a reached item. Only the lists are looked at whose names stand at the same place.
 fn is_list_in(unit: &UnitFunctions<'_>, toks: &[Tok], list: &List, k: u32, number: usize) -> bool
     ensures { result ≡ is_list_in unit.now.class.members toks.now list.now k unit.now.text.now unit.now.bound.now number }
 {
-    let found = unit.found.as_slice();
-    for other in found {
+    let found = unit.by_place.as_slice();
+    let others = unit.text.toks();
+    let name = name_number(toks, list);
+    let from = lists_before(others, found, name);
+    for at in from..found.len() {
+        let other = found[at];
+        if is_past(others, other, name) {
+            return false;
+        }
         if is_list_at(unit, toks, list, k, number, other) {
             return true;
         }
@@ -365,13 +343,13 @@ fn is_list_near(
 fn is_mark_everywhere(
     functions: &Functions<'_>,
     toks: &[Tok],
-    reached: &[Reached],
+    reached: &Runs<'_>,
     list: &List,
     k: u32,
 ) -> bool
     ensures { result ≡ is_mark_everywhere functions.now.members functions.now.analysis.value toks.now reached.now list.now k }
 {
-    match item_of(reached, k) {
+    match reached.item_of(k) {
         Some(item) => is_list_for(functions, toks, list, Asked::Mark(k), item),
         None => false,
     }
@@ -380,7 +358,7 @@ fn is_mark_everywhere(
 fn are_everywhere(
     functions: &Functions<'_>,
     toks: &[Tok],
-    reached: &[Reached],
+    reached: &Runs<'_>,
     list: &List,
     indices: &[u32],
 ) -> bool
@@ -399,7 +377,7 @@ fn are_everywhere(
 fn are_marks_everywhere(
     functions: &Functions<'_>,
     toks: &[Tok],
-    reached: &[Reached],
+    reached: &Runs<'_>,
     list: &List,
 ) -> bool
     ensures { result ≡ each_mark
@@ -411,27 +389,27 @@ fn are_marks_everywhere(
                 && is_mark_everywhere(functions, toks, reached, list, list.close)))
 }
 
-fn are_of_run(reached: &[Reached], number: usize, indices: &[u32]) -> bool
+fn are_of_run(reached: &Runs<'_>, number: usize, indices: &[u32]) -> bool
     ensures { result ≡ list_all (is_of_run reached.now number) indices.now }
 {
-    indices.iter().all(|k| run_of(reached, *k) == number)
+    indices.iter().all(|k| reached.run_of(*k) == number)
 }
 
 // Whether all marks of a list were put out for one run.
-fn is_of_run(reached: &[Reached], number: usize, list: &List) -> bool
+fn is_of_run(reached: &Runs<'_>, number: usize, list: &List) -> bool
     ensures { result ≡ each_mark (is_of_run reached.now number) list.now }
 {
-    run_of(reached, list.name) == number
-        && (run_of(reached, list.begin) == number
+    reached.run_of(list.name) == number
+        && (reached.run_of(list.begin) == number
             && (are_of_run(reached, number, list.commas.as_slice())
-                && run_of(reached, list.close) == number))
+                && reached.run_of(list.close) == number))
 }
 
 // The same for each mark of a list, where all were put out for this run: this asks once for all of them.
 fn is_everywhere_at(
     functions: &Functions<'_>,
     toks: &[Tok],
-    reached: &[Reached],
+    reached: &Runs<'_>,
     list: &List,
     number: usize,
     near: ItemUnits,
@@ -441,7 +419,7 @@ fn is_everywhere_at(
     ensures { result ≡ each_mark
         (is_mark_everywhere functions.now.members functions.now.analysis.value toks.now reached.now list.now) list.now }
 {
-    match item_at(reached, number) {
+    match reached.item_at(number) {
         Some(item) => is_list_near(functions, toks, list, Asked::All, item, near),
         None => false,
     }
@@ -451,7 +429,7 @@ fn is_everywhere_at(
 fn is_everywhere(
     functions: &Functions<'_>,
     toks: &[Tok],
-    reached: &[Reached],
+    reached: &Runs<'_>,
     list: &List,
     near: ItemUnits,
 ) -> bool
@@ -459,7 +437,7 @@ fn is_everywhere(
     ensures { result ≡ each_mark
         (is_mark_everywhere functions.now.members functions.now.analysis.value toks.now reached.now list.now) list.now }
 {
-    let number = run_of(reached, list.name);
+    let number = reached.run_of(list.name);
     if is_of_run(reached, number, list) {
         is_everywhere_at(functions, toks, reached, list, number, near)
     } else {
@@ -471,7 +449,7 @@ fn is_everywhere(
 pub(crate) fn macro_at(
     functions: &Functions<'_>,
     toks: &[Tok],
-    reached: &[Reached],
+    reached: &Runs<'_>,
     list: &List,
     near: ItemUnits,
     first: Option<Offence>,

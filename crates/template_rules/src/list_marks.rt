@@ -5,13 +5,15 @@ ghost use Rattle.cs_base.specs.declared.causes.Cause.TheVariants as cause;
 ghost use Rattle.offences.specs.First.{standing, FirstThen};
 ghost use Rattle.template_rules.specs.Functions.{names_function};
 ghost use Rattle.template_rules.specs.Lists.{arguments_of, parameters_of};
-ghost use Rattle.template_rules.specs.Marks.{read_only_place, is_across, across_place, count_place, mark_offences, declarator_marks, call_marks, all_marks};
+ghost use Rattle.template_rules.specs.Marks.{read_only_place, is_main, main_place, across_place, count_place, mark_offences, declarator_marks, call_marks, all_marks};
 
 use crate::counting::{arguments_of, parameters_of};
+use crate::dependences::spelling_at;
 use crate::functions::Functions;
 use crate::places::{at_token, origin_of};
+use crate::run_list::Runs;
 use crate::unit_functions::{UnitFunctions, names_function};
-use analysis::{Analysis, Reached};
+use analysis::Analysis;
 use c_types::List;
 use cs_base::{Cause, Tok};
 use offences::{Offence, first_with};
@@ -32,23 +34,35 @@ fn read_only_at(a: &Analysis, toks: &[Tok], list: &List, first: Option<Offence>)
     }
 }
 
-pub(crate) fn is_across(reached: &[Reached], list: &List) -> bool
-    ensures { result ≡ is_across reached.now list.now }
+// Whether token `k` is spelled `main`.
+fn is_main(toks: &[Tok], k: u32) -> bool
+    ensures { result ≡ is_main toks.now k }
 {
-    reached.iter().any(|item| list.name < item.before && item.before <= list.close)
+    spelling_at(toks, k) == b"main".as_slice()
+}
+
+// `Reserved` at a list.
+fn main_at(a: &Analysis, toks: &[Tok], list: &List, first: Option<Offence>) -> Option<Offence>
+    ensures { FirstThen a.now.value.table (standing cause.Reserved (main_place toks.now list.now)) first result }
+{
+    if is_main(toks, list.name) {
+        at_token(a, toks, list.name, Cause::Reserved, first)
+    } else {
+        first
+    }
 }
 
 // `AcrossDirective` at a list.
 fn across_at(
     a: &Analysis,
     toks: &[Tok],
-    reached: &[Reached],
+    reached: &Runs<'_>,
     list: &List,
     first: Option<Offence>,
 ) -> Option<Offence>
     ensures { FirstThen a.now.value.table (standing cause.AcrossDirective (across_place toks.now reached.now list.now)) first result }
 {
-    if is_across(reached, list) {
+    if reached.is_across(list) {
         at_token(a, toks, list.name, Cause::AcrossDirective, first)
     } else {
         first
@@ -73,12 +87,12 @@ fn count_at(
     }
 }
 
-// All three at a list.
+// All four at a list.
 fn marks_at(
     a: &Analysis,
     count: usize,
     toks: &[Tok],
-    reached: &[Reached],
+    reached: &Runs<'_>,
     length: usize,
     list: &List,
     first: Option<Offence>,
@@ -86,11 +100,12 @@ fn marks_at(
     ensures { FirstThen a.now.value.table (mark_offences a.now.value count toks.now reached.now length list.now) first result }
 {
     let kept = read_only_at(a, toks, list, first);
-    let across = across_at(a, toks, reached, list, kept);
+    let main = main_at(a, toks, list, kept);
+    let across = across_at(a, toks, reached, list, main);
     count_at(a, count, length, toks, list, across)
 }
 
-// All three at the parameter list of a declarator, if it is one of a function that the class names.
+// All four at the parameter list of a declarator, if it is one of a function that the class names.
 fn at_declarator(
     a: &Analysis,
     unit: &UnitFunctions<'_>,
@@ -106,7 +121,7 @@ fn at_declarator(
             a,
             count,
             unit.text.toks(),
-            unit.text.reached(),
+            &unit.runs,
             parameters_of(&unit.lists, list.name),
             list,
             first,
@@ -132,7 +147,7 @@ fn at_call(
             a,
             count,
             unit.text.toks(),
-            unit.text.reached(),
+            &unit.runs,
             arguments_of(list),
             list,
             first,
@@ -178,8 +193,9 @@ fn at_calls(
     now
 }
 
-/// `ReadOnly`, at the `(` of a list in a file that is not edited; `AcrossDirective`, at the name of a list that goes on
-/// behind a directive; `ArgumentCount`, at the name of a list that has not so many items.
+/// `ReadOnly`, at the `(` of a list in a file that is not edited; `Reserved`, at the name of a list of `main`;
+/// `AcrossDirective`, at the name of a list that goes on behind a directive; `ArgumentCount`, at the name of a list that
+/// has not so many items.
 pub fn at_marks(functions: &Functions<'_>, count: usize, first: Option<Offence>) -> Option<Offence>
     ensures answer { FirstThen functions.now.analysis.value.table
         (all_marks functions.now.members functions.now.analysis.value count) first result }

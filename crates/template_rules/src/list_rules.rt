@@ -3,6 +3,8 @@ ghost use Rattle.std.specs.Prelude.{◌≡◌, IfOk};
 ghost use Rattle.std.specs.List.{flat_map};
 ghost use Rattle.offences.specs.First.{FirstThen};
 ghost use Rattle.template_rules.specs.Asking.{AreWithin};
+ghost use Rattle.template_rules.specs.LineOffences.{odd_positions};
+ghost use Rattle.template_rules.specs.OddLines.{AreOdd};
 ghost use Rattle.template_rules.specs.Offences.{list_offences, declarator_offences, call_offences, all_lists};
 
 use crate::body_lists::body_at;
@@ -10,35 +12,36 @@ use crate::dependences::dependences_at;
 use crate::functions::Functions;
 use crate::item_units::{ItemUnits, all_units, units_at};
 use crate::list_macros::macro_at;
-use crate::odd_tokens::{odd_tokens, odds_at};
+use crate::odd_lines::{OddLines, odd_lines};
+use crate::odd_tokens::odds_at;
 use crate::unit_functions::{UnitFunctions, names_function};
-use analysis::UnitText;
 use c_types::List;
-use cs_base::{Memory, Pos};
+use cs_base::Memory;
 use offences::Offence;
 use std::alloc::Global;
 
 // `InMacro` and `OddToken` at a list.
 fn list_at(
     functions: &Functions<'_>,
-    odds: &[Pos],
-    text: &UnitText,
+    odds: &OddLines,
+    unit: &UnitFunctions<'_>,
     list: &List,
     near: ItemUnits,
     first: Option<Offence>,
 ) -> Option<Offence>
-    requires { AreWithin functions.now.analysis.value.units near }
+    requires near { AreWithin functions.now.analysis.value.units near }
+    requires odds { AreOdd functions.now.analysis.value.table (odd_positions functions.now.analysis.value.table) odds.now }
     ensures { FirstThen functions.now.analysis.value.table
-        (list_offences functions.now.members functions.now.analysis.value odds.now text.now list.now) first result }
+        (list_offences functions.now.members functions.now.analysis.value (odd_positions functions.now.analysis.value.table) unit.now.text.now list.now) first result }
 {
-    let named = macro_at(functions, text.toks(), text.reached(), list, near, first);
-    odds_at(functions.analysis(), odds, text, list, named)
+    let named = macro_at(functions, unit.text.toks(), &unit.runs, list, near, first);
+    odds_at(functions.analysis(), odds, unit, list, named)
 }
 
 // These and `ParameterDependence`, at the list of a declarator, if it is one of a function that the class names.
 fn declarator_at(
     functions: &Functions<'_>,
-    odds: &[Pos],
+    odds: &OddLines,
     unit: &UnitFunctions<'_>,
     list: &List,
     near: ItemUnits,
@@ -46,11 +49,12 @@ fn declarator_at(
 ) -> Option<Offence>
     requires class { unit.now.class ≡ functions.now }
     requires near { AreWithin functions.now.analysis.value.units near }
+    requires odds { AreOdd functions.now.analysis.value.table (odd_positions functions.now.analysis.value.table) odds.now }
     ensures { FirstThen functions.now.analysis.value.table (declarator_offences functions.now.members
-        functions.now.analysis.value odds.now unit.now.text.now unit.now.bound.now unit.now.lists.items list.now) first result }
+        functions.now.analysis.value (odd_positions functions.now.analysis.value.table) unit.now.text.now unit.now.bound.now unit.now.lists.items list.now) first result }
 {
     if names_function(unit, list.name) {
-        let named = list_at(functions, odds, unit.text, list, near, first);
+        let named = list_at(functions, odds, unit, list, near, first);
         dependences_at(
             functions.analysis(),
             unit.text.toks(),
@@ -68,7 +72,7 @@ fn declarator_at(
 // These and `DeclarationInArgument`, at the list of a call of one.
 fn call_at(
     functions: &Functions<'_>,
-    odds: &[Pos],
+    odds: &OddLines,
     unit: &UnitFunctions<'_>,
     ends: &[u32],
     list: &List,
@@ -77,11 +81,12 @@ fn call_at(
 ) -> Option<Offence>
     requires class { unit.now.class ≡ functions.now }
     requires near { AreWithin functions.now.analysis.value.units near }
+    requires odds { AreOdd functions.now.analysis.value.table (odd_positions functions.now.analysis.value.table) odds.now }
     ensures { FirstThen functions.now.analysis.value.table (call_offences functions.now.members
-        functions.now.analysis.value odds.now unit.now.text.now unit.now.bound.now ends.now list.now) first result }
+        functions.now.analysis.value (odd_positions functions.now.analysis.value.table) unit.now.text.now unit.now.bound.now ends.now list.now) first result }
 {
     if names_function(unit, list.name) {
-        let named = list_at(functions, odds, unit.text, list, near, first);
+        let named = list_at(functions, odds, unit, list, near, first);
         body_at(functions.analysis(), unit.text.toks(), ends, list, named)
     } else {
         first
@@ -90,14 +95,15 @@ fn call_at(
 
 fn at_declarators(
     functions: &Functions<'_>,
-    odds: &[Pos],
+    odds: &OddLines,
     unit: &UnitFunctions<'_>,
     all: &[List],
     first: Option<Offence>,
 ) -> Option<Offence>
-    requires { unit.now.class ≡ functions.now }
+    requires class { unit.now.class ≡ functions.now }
+    requires odds { AreOdd functions.now.analysis.value.table (odd_positions functions.now.analysis.value.table) odds.now }
     ensures { FirstThen functions.now.analysis.value.table (flat_map (declarator_offences functions.now.members
-        functions.now.analysis.value odds.now unit.now.text.now unit.now.bound.now unit.now.lists.items) all.now) first result }
+        functions.now.analysis.value (odd_positions functions.now.analysis.value.table) unit.now.text.now unit.now.bound.now unit.now.lists.items) all.now) first result }
 {
     let mut now = first;
     let mut near = all_units(functions);
@@ -110,15 +116,16 @@ fn at_declarators(
 
 fn at_calls(
     functions: &Functions<'_>,
-    odds: &[Pos],
+    odds: &OddLines,
     unit: &UnitFunctions<'_>,
     ends: &[u32],
     all: &[List],
     first: Option<Offence>,
 ) -> Option<Offence>
-    requires { unit.now.class ≡ functions.now }
+    requires class { unit.now.class ≡ functions.now }
+    requires odds { AreOdd functions.now.analysis.value.table (odd_positions functions.now.analysis.value.table) odds.now }
     ensures { FirstThen functions.now.analysis.value.table (flat_map (call_offences functions.now.members
-        functions.now.analysis.value odds.now unit.now.text.now unit.now.bound.now ends.now) all.now) first result }
+        functions.now.analysis.value (odd_positions functions.now.analysis.value.table) unit.now.text.now unit.now.bound.now ends.now) all.now) first result }
 {
     let mut now = first;
     let mut near = all_units(functions);
@@ -140,7 +147,7 @@ pub fn at_lists(
     ensures answer { IfOk result (FirstThen functions.now.analysis.value.table
         (all_lists functions.now.members functions.now.analysis.value) first) }
 {
-    let odds = odd_tokens(alloc, functions.analysis())?;
+    let odds = odd_lines(alloc, functions.analysis())?;
     let mut now = first;
     let units = functions.units();
     for unit in units {

@@ -1,16 +1,19 @@
 // What names say against a new order.
-ghost use Rattle.std.specs.Prelude.{◌≡◌};
+ghost use Rattle.std.specs.Prelude.{◌≡◌, true};
 ghost use Rattle.std.specs.List.{flat_map};
+ghost use Rattle.std.specs.List.Sorted.{IsNonDecreasingBy};
+ghost use Rattle.c_types.specs.declared.lists.List.{List as NameList};
 ghost use Rattle.cs_base.specs.declared.causes.Cause.TheVariants as cause;
 ghost use Rattle.offences.specs.First.{standing, FirstThen};
-ghost use Rattle.template_rules.specs.NameOffences.{has_prototype, is_callee, is_prototype, no_prototype_place, value_place, name_offences, all_names};
+ghost use Rattle.template_rules.specs.NameOffences.{has_prototype, is_prototype, no_prototype_place, value_place, name_offences, all_names};
 
+use crate::callees::{calls_rise, is_callee};
 use crate::counting::parameters_at;
 use crate::functions::{Functions, holds_at};
 use crate::places::at_token;
 use crate::unit_functions::{UnitFunctions, declares_function};
 use analysis::{Analysis, Name};
-use c_types::{List, ParameterForm, ParameterList};
+use c_types::{ParameterForm, ParameterList};
 use cs_base::Cause;
 use offences::Offence;
 
@@ -30,12 +33,6 @@ fn has_prototype(lists: &[ParameterList], k: u32) -> bool
         Some(list) => is_prototype(list.form),
         None => false,
     }
-}
-
-fn is_callee(calls: &[List], k: u32) -> bool
-    ensures { result ≡ is_callee calls.now k }
-{
-    calls.iter().any(|list| list.name == k)
 }
 
 // `NoPrototype` at a name.
@@ -60,25 +57,29 @@ fn value_at(
     a: &Analysis,
     unit: &UnitFunctions<'_>,
     name: Name,
+    rises: bool,
     first: Option<Offence>,
 ) -> Option<Offence>
+    requires { rises ≡ true → IsNonDecreasingBy (λ (l : NameList). l.name) unit.now.bound.now.calls }
     ensures { FirstThen a.now.value.table (standing cause.FunctionAsValue
         (value_place unit.now.class.members unit.now.text.now.toks unit.now.bound.now.names unit.now.bound.now.calls name)) first result }
 {
     if !holds_at(&unit.class, unit.text.toks(), name.index) {
         return first;
     }
-    if declares_function(unit, name) || is_callee(unit.bound.calls(), name.index) {
-        first
-    } else {
-        at_token(
-            a,
-            unit.text.toks(),
-            name.index,
-            Cause::FunctionAsValue,
-            first,
-        )
+    if declares_function(unit, name) {
+        return first;
     }
+    if is_callee(unit.bound.calls(), name.index, rises) {
+        return first;
+    }
+    at_token(
+        a,
+        unit.text.toks(),
+        name.index,
+        Cause::FunctionAsValue,
+        first,
+    )
 }
 
 // Both at a name.
@@ -86,13 +87,15 @@ fn at_name(
     a: &Analysis,
     unit: &UnitFunctions<'_>,
     name: Name,
+    rises: bool,
     first: Option<Offence>,
 ) -> Option<Offence>
+    requires { rises ≡ true → IsNonDecreasingBy (λ (l : NameList). l.name) unit.now.bound.now.calls }
     ensures { FirstThen a.now.value.table (name_offences unit.now.class.members unit.now.text.now.toks
         unit.now.bound.now.names unit.now.bound.now.calls unit.now.lists.items name) first result }
 {
     let lacking = no_prototype_at(a, unit, name, first);
-    value_at(a, unit, name, lacking)
+    value_at(a, unit, name, rises, lacking)
 }
 
 // The same at these names of a unit.
@@ -105,9 +108,10 @@ fn at_unit_names(
     ensures { FirstThen a.now.value.table (flat_map (name_offences unit.now.class.members unit.now.text.now.toks
         unit.now.bound.now.names unit.now.bound.now.calls unit.now.lists.items) names.now) first result }
 {
+    let rises = calls_rise(unit.bound.calls());
     let mut now = first;
     for name in names {
-        now = at_name(a, unit, *name, now);
+        now = at_name(a, unit, *name, rises, now);
     }
     now
 }

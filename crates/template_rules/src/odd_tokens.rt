@@ -1,45 +1,26 @@
 // Tokens of none of the other kinds, in lines with tokens of lists (ISO/IEC 9899:1999, 6.4 paragraph 3).
-ghost use Rattle.std.specs.Prelude.{◌≡◌, ◌+◌, ◌-◌, ◌++◌, [], IfOk, OnOk};
-ghost use Rattle.std.specs.List.{flat_map, list_any};
+ghost use Rattle.std.specs.Prelude.{◌≡◌, ◌-◌, ◌++◌, [], ◌&&◌, if◌then◌else◌, not, IfOk, OnOk};
+ghost use Rattle.std.specs.List.{flat_map};
 ghost use Rattle.std.specs.Option.{option_map_or};
 ghost use Rattle.cs_base.specs.declared.causes.Cause.TheVariants as cause;
 ghost use Rattle.list_cuts.specs.Cuts.{numbers};
 ghost use Rattle.analysis.specs.Below.source_files.KeptFiles.{kept_at};
 ghost use Rattle.offences.specs.First.{standing, FirstThen};
 ghost use Rattle.offences.specs.Tokens.{file_toks};
-ghost use Rattle.template_rules.specs.LineOffences.{is_line_feed_at, line_begin, is_odd, odd_position, odd_positions, is_on_line, is_token_on, is_by_list, is_among_lines, is_among_list, is_odd_by, odd_place, odd_places};
+ghost use Rattle.template_rules.specs.LineOffences.{is_odd, odd_places, odd_position, odd_positions};
+ghost use Rattle.template_rules.specs.MacroOffences.{is_direct as is_direct_list};
+ghost use Rattle.template_rules.specs.Marks.{is_across as is_across_list};
+ghost use Rattle.template_rules.specs.OddLines.{AreOdd, odds_among, odds_among_list, odds_by_list, odds_by_token};
 
 use crate::list_macros::is_direct;
-use crate::list_marks::is_across;
+use crate::odd_lines::OddLines;
 use crate::places::origin_of;
-use analysis::{Analysis, KeptFile, UnitText};
+use crate::unit_functions::UnitFunctions;
+use analysis::Analysis;
 use c_types::List;
 use cs_base::{Cause, Kind, Memory, Pos, Tok};
 use offences::{Offence, first_with};
 use std::alloc::Global;
-
-fn is_line_feed_at(file: &KeptFile, at: u32) -> bool
-    ensures { result ≡ is_line_feed_at file.now.bytes at }
-{
-    match file.text().byte_of(at) {
-        Some(byte) => file.bytes()[byte as usize] == b'\n',
-        None => false,
-    }
-}
-
-// The character with which the line of a character begins.
-fn line_begin(file: &KeptFile, at: u32) -> u32
-    ensures { result ≡ line_begin file.now.bytes at }
-{
-    let mut begin = at;
-    'line: while begin > 0 {
-        if is_line_feed_at(file, begin - 1) {
-            return begin;
-        }
-        begin -= 1;
-    }
-    0
-}
 
 fn is_odd(kind: Kind) -> bool
     ensures { result ≡ is_odd kind }
@@ -88,110 +69,142 @@ pub(crate) fn odd_tokens(alloc: Global, a: &Analysis) -> Result<Vec<Pos>, Memory
     Ok(out)
 }
 
-// Whether two positions stand in one line.
-fn is_on_line(a: &Analysis, p: Pos, q: Pos) -> bool
-    ensures { result ≡ is_on_line a.now.value.table p q }
-{
-    if p.file != q.file {
-        return false;
-    }
-    match a.file(p.file) {
-        Some(file) => line_begin(file, p.at) == line_begin(file, q.at),
-        None => false,
-    }
-}
-
-fn is_token_on(a: &Analysis, p: Pos, toks: &[Tok], k: u32) -> bool
-    ensures { result ≡ is_token_on a.now.value.table p toks.now k }
-{
-    (k as usize) < toks.len() && is_on_line(a, p, toks[k as usize].at())
-}
-
-// Whether the line has a token of a list, from one token to before another.
-fn is_by_tokens(a: &Analysis, p: Pos, toks: &[Tok], begin: u32, close: u32) -> bool
-    ensures { result ≡ list_any (is_token_on a.now.value.table p toks.now) (numbers begin (close - begin)) }
-{
-    for k in begin..close {
-        if is_token_on(a, p, toks, k) {
-            return true;
-        }
-    }
-    false
-}
-
-fn is_by_list(a: &Analysis, p: Pos, toks: &[Tok], list: &List) -> bool
-    ensures { result ≡ is_by_list a.now.value.table p toks.now list.now }
-{
-    is_token_on(a, p, toks, list.name)
-        || (is_token_on(a, p, toks, list.close) || is_by_tokens(a, p, toks, list.begin, list.close))
-}
-
-// Whether the line of a position is one of those from another to a third.
-fn is_among_lines(a: &Analysis, p: Pos, from: Pos, to: Pos) -> bool
-    ensures { result ≡ is_among_lines a.now.value.table p from to }
-{
-    if p.file != from.file {
-        return false;
-    }
-    match a.file(p.file) {
-        Some(file) => {
-            let begin = line_begin(file, p.at);
-            line_begin(file, from.at) <= begin && begin <= line_begin(file, to.at)
-        }
-        None => false,
-    }
-}
-
-fn is_among_list(a: &Analysis, p: Pos, toks: &[Tok], list: &List) -> bool
-    ensures { result ≡ is_among_list a.now.value.table p toks.now list.now }
-{
-    match origin_of(toks, list.begin) {
-        Some(from) => match origin_of(toks, list.close) {
-            Some(to) => is_among_lines(a, p, from, to),
-            None => false,
-        },
-        None => false,
-    }
-}
-
-fn is_odd_by(a: &Analysis, text: &UnitText, list: &List, p: Pos) -> bool
-    ensures { result ≡ is_odd_by a.now.value.table text.now list.now p }
-{
-    is_by_list(a, p, text.toks(), list)
-        || (is_direct(text.toks(), list) && !is_across(text.reached(), list))
-            && is_among_list(a, p, text.toks(), list)
-}
-
-// `OddToken` at such a position, if its line has a token of the list.
-fn odd_at(
+// `OddToken` at the first token in the lines from a position to another.
+fn odd_among(
     a: &Analysis,
-    text: &UnitText,
-    list: &List,
-    p: Pos,
+    lines: &OddLines,
+    from: Pos,
+    to: Pos,
     first: Option<Offence>,
 ) -> Option<Offence>
-    ensures { FirstThen a.now.value.table (standing cause.OddToken (odd_place a.now.value.table text.now list.now p)) first result }
+    requires { AreOdd a.now.value.table (odd_positions a.now.value.table) lines.now }
+    ensures { FirstThen a.now.value.table
+        (standing cause.OddToken (odds_among a.now.value.table (odd_positions a.now.value.table) from to)) first result }
 {
-    if is_odd_by(a, text, list, p) {
-        first_with(a, first, p, Cause::OddToken)
+    match lines.first_among(from, to.at) {
+        Some(p) => first_with(a, first, p, Cause::OddToken),
+        None => first,
+    }
+}
+
+// The same in the line of the source token that brought token `k`.
+fn odd_by_token(
+    a: &Analysis,
+    lines: &OddLines,
+    toks: &[Tok],
+    k: u32,
+    first: Option<Offence>,
+) -> Option<Offence>
+    requires { AreOdd a.now.value.table (odd_positions a.now.value.table) lines.now }
+    ensures { FirstThen a.now.value.table
+        (standing cause.OddToken (odds_by_token a.now.value.table (odd_positions a.now.value.table) toks.now k)) first result }
+{
+    if (k as usize) < toks.len() {
+        let at = toks[k as usize].at();
+        odd_among(a, lines, at, at, first)
     } else {
         first
     }
 }
 
-/// The same at all of them.
-pub(crate) fn odds_at(
+// The same for each token from one to before another.
+fn odd_by_tokens(
     a: &Analysis,
-    odds: &[Pos],
-    text: &UnitText,
+    lines: &OddLines,
+    toks: &[Tok],
+    begin: u32,
+    close: u32,
+    first: Option<Offence>,
+) -> Option<Offence>
+    requires { AreOdd a.now.value.table (odd_positions a.now.value.table) lines.now }
+    ensures { FirstThen a.now.value.table (standing cause.OddToken (flat_map
+        (odds_by_token a.now.value.table (odd_positions a.now.value.table) toks.now) (numbers begin (close - begin)))) first result }
+{
+    let mut now = first;
+    for k in begin..close {
+        now = odd_by_token(a, lines, toks, k, now);
+    }
+    now
+}
+
+// The same in the lines from the `(` of a list to its `)`, as they stand in the file.
+fn odd_among_list(
+    a: &Analysis,
+    lines: &OddLines,
+    toks: &[Tok],
     list: &List,
     first: Option<Offence>,
 ) -> Option<Offence>
-    ensures { FirstThen a.now.value.table (standing cause.OddToken (odd_places a.now.value.table odds.now text.now list.now)) first result }
+    requires { AreOdd a.now.value.table (odd_positions a.now.value.table) lines.now }
+    ensures { FirstThen a.now.value.table
+        (standing cause.OddToken (odds_among_list a.now.value.table (odd_positions a.now.value.table) toks.now list.now)) first result }
 {
-    let mut now = first;
-    for p in odds {
-        now = odd_at(a, text, list, *p, now);
+    match origin_of(toks, list.begin) {
+        Some(from) => match origin_of(toks, list.close) {
+            Some(to) => odd_among(a, lines, from, to, first),
+            None => first,
+        },
+        None => first,
     }
-    now
+}
+
+// The same for the tokens of a list.
+fn odd_by_list(
+    a: &Analysis,
+    lines: &OddLines,
+    toks: &[Tok],
+    list: &List,
+    first: Option<Offence>,
+) -> Option<Offence>
+    requires { AreOdd a.now.value.table (odd_positions a.now.value.table) lines.now }
+    ensures { FirstThen a.now.value.table
+        (standing cause.OddToken (odds_by_list a.now.value.table (odd_positions a.now.value.table) toks.now list.now)) first result }
+{
+    let named = odd_by_token(a, lines, toks, list.name, first);
+    let closed = odd_by_token(a, lines, toks, list.close, named);
+    odd_by_tokens(a, lines, toks, list.begin, list.close, closed)
+}
+
+// Whether the lines from the `(` of a list to its `)` count: no macro put its marks in, and no directive stands in it.
+fn is_whole(unit: &UnitFunctions<'_>, list: &List) -> bool
+    ensures { result ≡ (is_direct_list unit.now.text.now.toks list.now && not (is_across_list unit.now.text.now.reached list.now)) }
+{
+    is_direct(unit.text.toks(), list) && !unit.runs.is_across(list)
+}
+
+// The same in these lines, if they count.
+fn odd_inside(
+    a: &Analysis,
+    lines: &OddLines,
+    toks: &[Tok],
+    list: &List,
+    whole: bool,
+    first: Option<Offence>,
+) -> Option<Offence>
+    requires { AreOdd a.now.value.table (odd_positions a.now.value.table) lines.now }
+    ensures { FirstThen a.now.value.table (standing cause.OddToken
+        (if whole then odds_among_list a.now.value.table (odd_positions a.now.value.table) toks.now list.now else [])) first result }
+{
+    if whole {
+        odd_among_list(a, lines, toks, list, first)
+    } else {
+        first
+    }
+}
+
+/// `OddToken` at each of these tokens in the lines of a list. The first in each line tells.
+pub(crate) fn odds_at(
+    a: &Analysis,
+    lines: &OddLines,
+    unit: &UnitFunctions<'_>,
+    list: &List,
+    first: Option<Offence>,
+) -> Option<Offence>
+    requires { AreOdd a.now.value.table (odd_positions a.now.value.table) lines.now }
+    ensures { FirstThen a.now.value.table (standing cause.OddToken (odd_places a.now.value.table
+        (odd_positions a.now.value.table) unit.now.text.now list.now)) first result }
+{
+    let toks = unit.text.toks();
+    let now = odd_by_list(a, lines, toks, list, first);
+    odd_inside(a, lines, toks, list, is_whole(unit, list), now)
 }

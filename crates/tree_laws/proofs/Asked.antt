@@ -7,7 +7,7 @@ use Rattle.c99_tree.specs.declared.production.Label.{Label}
 use Rattle.c99_tree.specs.declared.production.Production.{Production}
 use Rattle.c99_tree.specs.declared.production.Production.TheVariants.{External, Declaration, Member, Mod, Main, StructSpec, SuRest, Direct, Pdirect, Suffix, Pointer, Primary, ExtRest, DeclRest, Specs, Sassert}
 use Rattle.c_types.specs.Types.{CType, pointer, array, function}
-use Rattle.c_types.specs.Trees.{is_node, is_at, last_token, first_token, has_node, has_mod, has_at, has_untagged, is_anonymous, words_of, is_one, is_lone_main, is_bare, holds_name, has_name, name_below, is_list, suffixed, declarator_type, first_list, is_text}
+use Rattle.c_types.specs.Trees.{is_node, is_at, last_token, first_token, has_node, has_mod, has_at, has_untagged, is_anonymous, words_of, is_one, is_lone_main, is_bare, holds_name, has_name, name_below, is_list, suffixed, declarator_type, is_aside, first_list, is_text}
 use Rattle.tree_laws.specs.Narrowed.{number, renumbered, is_member, is_line, spread_if, narrowed}
 use Rattle.tree_laws.proofs.Standing.{within, kids, is_good, is_line_body, formed, is_mdecl, is_outer_part}
 use Rattle.tree_laws.proofs.StandardSteps.{labelled}
@@ -212,14 +212,18 @@ TypeSame g f = (t : CType) → declarator_type t g ≡ declarator_type t f
 
 node_type : (l : Label) (under rest : Forest) → TypeSame (narrowed under) under → TypeSame (narrowed rest) rest → (t : CType)
     → (if is_node l Pointer then declarator_type (pointer t) (narrowed rest)
-    else (if is_node l Suffix then suffixed t (node (renumbered l) 0 (narrowed under) (narrowed rest)) else declarator_type (suffixed t (narrowed rest)) (narrowed under)))
+    else (if is_node l Suffix then suffixed t (node (renumbered l) 0 (narrowed under) (narrowed rest))
+    else (if is_aside l then declarator_type t (narrowed rest) else declarator_type (suffixed t (narrowed rest)) (narrowed under))))
     ≡ (if is_node l Pointer then declarator_type (pointer t) rest
-    else (if is_node l Suffix then suffixed t (node l 0 under rest) else declarator_type (suffixed t rest) under))
+    else (if is_node l Suffix then suffixed t (node l 0 under rest) else (if is_aside l then declarator_type t rest else declarator_type (suffixed t rest) under)))
 node_type l under rest e r t =
     let behind : CType = suffixed t (narrowed rest) in
-    ap (λ x. if is_node l Pointer then x else (if is_node l Suffix then suffixed t (node (renumbered l) 0 (narrowed under) (narrowed rest)) else declarator_type behind (narrowed under))) (r (pointer t))
-    ∙ (ap (λ x. if is_node l Pointer then declarator_type (pointer t) rest else (if is_node l Suffix then x else declarator_type behind (narrowed under))) (suffixed-node l under rest t)
-    ∙ ap (λ x. if is_node l Pointer then declarator_type (pointer t) rest else (if is_node l Suffix then suffixed t (node l 0 under rest) else x)) (e behind ∙ ap (λ x. declarator_type x under) (suffixed-same t rest)))
+    let last : CType = if is_aside l then declarator_type t (narrowed rest) else declarator_type behind (narrowed under) in
+    ap (λ x. if is_node l Pointer then x else (if is_node l Suffix then suffixed t (node (renumbered l) 0 (narrowed under) (narrowed rest)) else last)) (r (pointer t))
+    ∙ (ap (λ x. if is_node l Pointer then declarator_type (pointer t) rest else (if is_node l Suffix then x else last)) (suffixed-node l under rest t)
+    ∙ ap (λ x. if is_node l Pointer then declarator_type (pointer t) rest else (if is_node l Suffix then suffixed t (node l 0 under rest) else x))
+    (ap (λ x. if is_aside l then x else declarator_type behind (narrowed under)) (r t)
+    ∙ ap (λ x. if is_aside l then declarator_type t rest else x) (e behind ∙ ap (λ x. declarator_type x under) (suffixed-same t rest))))
   where
     suffixed-node : (l : Label) (under rest : Forest) (t : CType) → suffixed t (node (renumbered l) 0 (narrowed under) (narrowed rest)) ≡ suffixed t (node l 0 under rest)
     suffixed-node l under rest t =

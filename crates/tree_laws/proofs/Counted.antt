@@ -24,7 +24,7 @@ use Rattle.tree_laws.proofs.InLists.{false≢true}
 use Rattle.tree_laws.proofs.Noted.{hit, hits, role_hit, declares, is_parameter, told_name, noted, form_here, forms_under, forms_behind}
 use Rattle.tree_laws.proofs.Adding.{count_in, Adds, adds_none, either_adds, anonymous_adds, declared_adds, used_adds, object_adds, parameter_adds, tag_adds, enumeration_adds, member_adds, member_used_adds, designated_adds, label_adds, jump_to_adds}
 
-outside_body : (b c d : Bool) → c ≡ true → (b ≡ true → (c || d) ≡ false) → b ≡ false
+pub outside_body : (b c d : Bool) → c ≡ true → (b ≡ true → (c || d) ≡ false) → b ≡ false
 outside_body true c d e h = absurd (false≢true (sym ((or_parts c d (h refl)).0) ∙ e))
 outside_body false c d e h = refl
 
@@ -41,11 +41,11 @@ times_push t x (y ∷ xs) = omega (arith, times_push t x xs)
 abbrev pub total : Bool → ℕ → Facts → ℕ
 total b t facts = count_in t facts.occurrences + (if b then times t facts.jumps else 0)
 
-total_adds : (b : Bool) (t m : ℕ) (old new : Facts) → Adds t m old new → total b t new ≤ total b t old + m
+pub total_adds : (b : Bool) (t m : ℕ) (old new : Facts) → Adds t m old new → total b t new ≤ total b t old + m
 total_adds true t m old new a = omega (arith, a.names, ap (times t) a.jumps)
 total_adds false t m old new a = omega (arith, a.names)
 
-jump_counts : (b : Bool) (t i : ℕ) (facts : Facts) → total b t (with_jump i facts) ≤ total b t facts + hit t i
+pub jump_counts : (b : Bool) (t i : ℕ) (facts : Facts) → total b t (with_jump i facts) ≤ total b t facts + hit t i
 jump_counts true t i facts = omega (arith, times_push t i facts.jumps)
 jump_counts false t i facts = omega arith
 
@@ -64,11 +64,11 @@ module _ (toks : List Token) (t : ℕ) where
 
   -- ---- A token
 
-  named_adds : (c : Bool) (i : ℕ) (facts : Facts) → Adds t (hit t i) facts (if c then facts else used toks i facts)
+  pub named_adds : (c : Bool) (i : ℕ) (facts : Facts) → Adds t (hit t i) facts (if c then facts else used toks i facts)
   named_adds true i facts = adds_none t (hit t i) facts
   named_adds false i facts = used_adds toks t i facts
 
-  token_counts : (b : Bool) (i : ℕ) (f : Frame) (facts : Facts) (r : Role) → total b t (facts_at toks r i f facts) ≤ total b t facts + role_hit r t i
+  pub token_counts : (b : Bool) (i : ℕ) (f : Frame) (facts : Facts) (r : Role) → total b t (facts_at toks r i f facts) ≤ total b t facts + role_hit r t i
   token_counts b i f facts =
       by_role (λ r. total b t (facts_at toks r i f facts) ≤ total b t facts + role_hit r t i)
       (omega arith)
@@ -97,7 +97,7 @@ module _ (toks : List Token) (t : ℕ) where
   parameter_in_adds Param f l under facts = parameter_adds toks t f under (name_below l under) facts
   parameter_in_adds _ f l under facts = adds_none t 0 facts
 
-  after_adds : (p : Production) (first : ℕ) (f : Frame) (l : Label) (under : Forest) (body : Option Body) (facts : Facts) → ghosts.eq p FunBody ≡ false
+  pub after_adds : (p : Production) (first : ℕ) (f : Frame) (l : Label) (under : Forest) (body : Option Body) (facts : Facts) → ghosts.eq p FunBody ≡ false
       → Adds t (hits t (told_name p f.label.production first l under)) facts (facts_after toks p first f l under body facts)
   after_adds Declarator first f l under body facts other = declared_in_adds f.label.production f l under facts
   after_adds Pdecl first f l under body facts other = parameter_in_adds f.label.production f l under facts
@@ -110,7 +110,7 @@ module _ (toks : List Token) (t : ℕ) where
   after_adds FunBody first f l under body facts other = absurd (false≢true (sym other))
   after_adds _ first f l under body facts other = adds_none t 0 facts
 
-  before_counts : (b : Bool) (p : Production) (first : ℕ) (under : Forest) (f : Frame) (facts : Facts) → ghosts.eq p FunBody ≡ false
+  pub before_counts : (b : Bool) (p : Production) (first : ℕ) (under : Forest) (f : Frame) (facts : Facts) → ghosts.eq p FunBody ≡ false
       → total b t (facts_in p first under f facts) ≤ total b t facts
   before_counts b FunBody first under f facts other = absurd (false≢true (sym other))
   before_counts b _ first under f facts other = omega arith
@@ -119,24 +119,24 @@ module _ (toks : List Token) (t : ℕ) where
   kept_counts None depth from to facts = omega arith
   kept_counts (Some list) depth from to facts = omega arith
 
-  body_begins : (p : Production) (first : ℕ) (under : Forest) (f : Frame) (facts : Facts) → ghosts.eq p FunBody ≡ true
+  pub body_begins : (p : Production) (first : ℕ) (under : Forest) (f : Frame) (facts : Facts) → ghosts.eq p FunBody ≡ true
       → total true t (facts_in p first under f facts) ≤ total false t facts
   body_begins FunBody first under f facts same = kept_counts f.kept (f.scope.depth + 1) first (last_token under 0) facts
   body_begins _ first under f facts same = absurd (false≢true same)
 
-  body_ends : (p : Production) (first : ℕ) (f : Frame) (l : Label) (under : Forest) (body : Option Body) (facts : Facts) → ghosts.eq p FunBody ≡ true
+  pub body_ends : (p : Production) (first : ℕ) (f : Frame) (l : Label) (under : Forest) (body : Option Body) (facts : Facts) → ghosts.eq p FunBody ≡ true
       → total false t (facts_after toks p first f l under body facts) ≤ total true t facts
   body_ends FunBody first f l under body facts same = labels_count body facts
   body_ends _ first f l under body facts same = absurd (false≢true same)
 
-body_holds_none : (p : Production) (under : Forest) → ghosts.eq p FunBody ≡ true → has_form p under ≡ true → has_body under ≡ false
+pub body_holds_none : (p : Production) (under : Forest) → ghosts.eq p FunBody ≡ true → has_form p under ≡ true → has_body under ≡ false
 body_holds_none FunBody under same form = not-true (has_body under) ((and_parts (has_token under) (not (has_body under)) form).1)
 body_holds_none _ under same form = absurd (false≢true same)
 
 -- ---- The walk
 
 -- inside a function, where no other one begins below
-abbrev Inside : Bool → Forest → Type 0
+abbrev pub Inside : Bool → Forest → Type 0
 Inside b f = b ≡ true → has_body f ≡ false
 
 module _ (toks : List Token) (t : ℕ) where

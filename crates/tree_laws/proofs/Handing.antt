@@ -209,10 +209,6 @@ tame_declarator : (p : Production) → is_tame p ≡ true → ghosts.eq p Declar
 tame_declarator Declarator h = absurd (false≢true h)
 tame_declarator _ h = refl
 
-collapsing_list : (p : Production) → collapses p ≡ true → ghosts.eq p Suffix ≡ false
-collapsing_list Suffix h = absurd (false≢true h)
-collapsing_list _ h = refl
-
 names_same : (o o' : Outline) (x : Option ℕ) (es es' : List Entry) → ((list : ℕ) → listed o' list es' ≡ listed o list es) → names_of o x es ≡ names_of o' x es'
 names_same o o' None es es' h = refl
 names_same o o' (Some list) es es' h = ap (λ r. Some r) (sym (h list))

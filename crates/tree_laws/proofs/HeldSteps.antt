@@ -35,17 +35,17 @@ Tokens S l k (node m first under rest) =
 -- ---- Steps
 
 module _ (toks : List Token) (S : ℕ → Type 0) (R : List Occurrence → ℕ → ℕ → Type 0) (law : GoesOn toks S R) where
-  facts_in_held : (p : Production) (first : ℕ) (under : Forest) (f : Frame) (facts : Facts) → Holds S R facts → Holds S R (facts_in p first under f facts)
+  pub facts_in_held : (p : Production) (first : ℕ) (under : Forest) (f : Frame) (facts : Facts) → Holds S R facts → Holds S R (facts_in p first under f facts)
   facts_in_held FunBody first under f facts h =
       kept_held S R f.kept (f.scope.depth + 1) first (last_token under 0) (record facts { jumps = [] })
       (record { declared = h.declared; occurrences = h.occurrences; jumps = λ j w. absurd w; fault = h.fault })
   facts_in_held _ first under f facts h = h
 
-  named_held : (c : Bool) (i : ℕ) (facts : Facts) → S i → Holds S R facts → Holds S R (if c then facts else used toks i facts)
+  pub named_held : (c : Bool) (i : ℕ) (facts : Facts) → S i → Holds S R facts → Holds S R (if c then facts else used toks i facts)
   named_held true i facts s h = h
   named_held false i facts s h = used_held toks S R law i facts s h
 
-  jump_held : (i : ℕ) (facts : Facts) → S i → Holds S R facts → Holds S R (with_jump i facts)
+  pub jump_held : (i : ℕ) (facts : Facts) → S i → Holds S R facts → Holds S R (with_jump i facts)
   jump_held i facts s h = record {
     declared = h.declared;
     occurrences = h.occurrences;
@@ -53,7 +53,7 @@ module _ (toks : List Token) (S : ℕ → Type 0) (R : List Occurrence → ℕ �
     fault = h.fault;
   }
 
-  facts_at_held : (i : ℕ) (f : Frame) (facts : Facts) → Holds S R facts → (r : Role) → (is_plain_role r ≡ false → S i) → Holds S R (facts_at toks r i f facts)
+  pub facts_at_held : (i : ℕ) (f : Frame) (facts : Facts) → Holds S R facts → (r : Role) → (is_plain_role r ≡ false → S i) → Holds S R (facts_at toks r i f facts)
   facts_at_held i f facts h =
       by_role (λ r. (is_plain_role r ≡ false → S i) → Holds S R (facts_at toks r i f facts))
       (λ s. h)
@@ -80,7 +80,7 @@ module _ (toks : List Token) (S : ℕ → Type 0) (R : List Occurrence → ℕ �
   parameter_in_held Param f l under facts w h = parameter_held toks S R law f under (name_below l under) facts w h
   parameter_in_held _ f l under facts w h = h
 
-  facts_after_held : (p : Production) (first : ℕ) (f : Frame) (l : Label) (under : Forest) (body : Option Body) (facts : Facts)
+  pub facts_after_held : (p : Production) (first : ℕ) (f : Frame) (l : Label) (under : Forest) (body : Option Body) (facts : Facts)
       → IfSome (told_name p f.label.production first l under) S → Holds S R facts → Holds S R (facts_after toks p first f l under body facts)
   facts_after_held Declarator first f l under body facts w h = declared_in_held f.label.production f l under facts w h
   facts_after_held Pdecl first f l under body facts w h = parameter_in_held f.label.production f l under facts w h

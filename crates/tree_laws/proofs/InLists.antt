@@ -21,11 +21,6 @@ pub found_in : {X : Type 0} (p : X → Bool) (xs : List X) (y : X) → find p xs
 found_in p [] y f = absurd cc
 found_in p (x ∷ xs) y f = in_step (p x) x y (find p xs) xs f (found_in p xs y)
 
--- what is true of each element is true of all
-pub all_in : {X : Type 0} (P : X → Type 0) (xs : List X) → ((x : X) → In x xs → P x) → All P xs
-all_in P [] h = All-nil P
-all_in P (x ∷ xs) h = All-cons P x xs (h x (inl refl)) (all_in P xs (λ y w. h y (inr w)))
-
 pub all_mapped : {X Y : Type 0} (P : Y → Type 0) (f : X → Y) (xs : List X) → ((x : X) → In x xs → P (f x)) → All P (map f xs)
 all_mapped P f [] h = All-nil P
 all_mapped P f (x ∷ xs) h = All-cons P (f x) (map f xs) (h x (inl refl)) (all_mapped P f xs (λ y w. h y (inr w)))

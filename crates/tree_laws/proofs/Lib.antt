@@ -11,19 +11,19 @@ pub mod Walked
 pub mod OfTexts
 pub mod NamesRead
 -- What the proofs of this crate rest on.
-mod InLists
-mod Noted
+pub mod InLists
+pub mod Noted
 pub mod Unnamed
-mod Holding
-mod HeldTags
-mod HeldSteps
-mod Adding
-mod Counted
+pub mod Holding
+pub mod HeldTags
+pub mod HeldSteps
+pub mod Adding
+pub mod Counted
 mod Climbing
 mod OrderedLists
-mod OrderedNames
+pub mod OrderedNames
 mod RenamedObjects
-mod RenamedMembers
+pub mod RenamedMembers
 mod SecondRanges
 mod Ordered
 mod Stopping

@@ -1,5 +1,5 @@
 -- In one unit an identifier that has linkage denotes one entity.
-use Rattle.std.proofs.Common.{ℕ, ◌≡◌, true, ◌==◌, if◌then◌else◌, List, [], ◌∷◌, length, map, Option, None, Some, inl, inr, refl, sym, ap, subst, ◌∙◌}
+use Rattle.std.proofs.Common.{ℕ, ◌≤◌, ◌≡◌, true, ◌==◌, if◌then◌else◌, List, [], ◌∷◌, length, map, Option, None, Some, inl, inr, refl, sym, ap, subst, ◌∙◌}
 use Rattle.std.specs.Prelude.{find}
 use Rattle.std.specs.Option.{option_map, option_map_or, option_and_then}
 use Rattle.std.proofs.lemmas.Bool.{cases_Bool, eqb-true, and_from}
@@ -26,11 +26,12 @@ use Rattle.tree_laws.proofs.RenamedObjects.{if_false}
 use Rattle.tree_laws.proofs.RenamedWalk.{no_fault, Follows, walked_same}
 use Rattle.tree_laws.proofs.InLists.{In as Among}
 use Rattle.tree_laws.proofs.HeldNames.{binding_is, occurrences_alike}
+use Rattle.tree_laws.proofs.Adding.{count_in}
 use Rattle.tree_laws.proofs.EntityNames.{has_in, entity_is}
 use Rattle.tree_laws.proofs.OrderedNames.{facts_once}
 
 -- two ways to say that an element is in a list
-among_in : {X : Type 0} (x : X) (xs : List X) → In x xs → Among x xs
+pub among_in : {X : Type 0} (x : X) (xs : List X) → In x xs → Among x xs
 among_in x [] w = w
 among_in x (y ∷ ys) (inl same) = inl same
 among_in x (y ∷ ys) (inr w) = inr (among_in x ys w)
@@ -105,10 +106,7 @@ all_kept toks tree b e =
     walked_same toks toks (λ word k h. refl) tree.under (at_first (length toks)) start good in
     follows.kept
 
-module _ (toks : List Token) (tree : Node) (t : IsTreeOf (length toks) tree) (kept : Kept toks (facts_of toks tree.under)) where
-  abbrev facts : Facts
-  facts = facts_of toks tree.under
-
+module _ (toks : List Token) (facts : Facts) (once : (t : ℕ) → count_in t facts.occurrences ≤ 1) (kept : Kept toks facts) where
   abbrev noted : Declaration → Occurrence
   noted d = record { index = d.name_at; entity = d.entity; declares = true }
 
@@ -116,7 +114,7 @@ module _ (toks : List Token) (tree : Node) (t : IsTreeOf (length toks) tree) (ke
   of_itself : (k : ℕ) → (d : IsDeclared facts k) → d.of.entity ≡ k
   of_itself k d =
       let noted : entity_at (names_of facts) d.of.name_at ≡ Some d.of.entity =
-      entity_is facts d.of.name_at d.of.entity (facts_once toks tree t d.of.name_at)
+      entity_is facts d.of.name_at d.of.entity (once d.of.name_at)
       (has_in (noted d.of) facts.occurrences (among_in (noted d.of) facts.occurrences (kept.covered d.of d.among (found_named d.of.space ordinary (kept.linked d.of d.among d.links))))) in
       same_Some d.of.entity k (sym noted ∙ (ap (λ (i : ℕ). entity_at (names_of facts) i) d.at ∙ d.own))
 
@@ -126,7 +124,7 @@ module _ (toks : List Token) (tree : Node) (t : IsTreeOf (length toks) tree) (ke
       and_from (is_named toks ordinary j d.of) (has_linkage d.of.linkage)
       (and_from (is_space d.of.space ordinary) (alike toks j d.of.name_at) (kept.linked d.of d.among d.links) spelled) d.links
 
-  one_token : (j k : ℕ) → has_linkage (linkage_at (names_of facts) j) ≡ true → has_linkage (linkage_at (names_of facts) k) ≡ true → alike toks j k ≡ true → j ≡ k
+  pub one_token : (j k : ℕ) → has_linkage (linkage_at (names_of facts) j) ≡ true → has_linkage (linkage_at (names_of facts) k) ≡ true → alike toks j k ≡ true → j ≡ k
   one_token j k h i same =
       let d : IsDeclared facts j = is_declared facts j h in
       let e : IsDeclared facts k = is_declared facts k i in
@@ -136,4 +134,4 @@ module _ (toks : List Token) (tree : Node) (t : IsTreeOf (length toks) tree) (ke
 pub linked_once : OneLinkedName
 linked_once toks tree b t e =
     subst (λ (x : Bound). (j k : ℕ) → has_linkage (linkage_at x.names j) ≡ true → has_linkage (linkage_at x.names k) ≡ true → alike toks j k ≡ true → j ≡ k)
-    (sym (binding_is toks tree b e)) (one_token toks tree t (all_kept toks tree b e))
+    (sym (binding_is toks tree b e)) (one_token toks (facts_of toks tree.under) (facts_once toks tree t) (all_kept toks tree b e))

@@ -8,7 +8,7 @@ use Rattle.c99_tree.specs.declared.production.Label.{Label}
 use Rattle.c99_tree.specs.declared.production.Production.{Production}
 use Rattle.c99_tree.specs.declared.production.Production.TheVariants.{ExtRest, Declarator, FunBody, Unary, Primary, Post, Params, Suffix, Pointer, Pdirect}
 use Rattle.c_types.specs.declared.lists.List.{List as NameList}
-use Rattle.c_types.specs.Trees.{name_below, is_node, is_at, is_list, first_token, last_token}
+use Rattle.c_types.specs.Trees.{name_below, is_node, is_at, is_list, first_token, last_token, is_aside}
 use Rattle.c_types.specs.Lists.{odd_tokens, commas_in, list_of, call_in, calls_in, body_of, tail_of, definition_in, bodies_in, nearest_of, own_list, declarator_in, is_declaring, lists_in, even_tokens, name_in, bare_at, bare_in}
 use Rattle.tree_laws.specs.Narrowed.{renumbered, is_member, is_line, spread_if, narrowed}
 use Rattle.tree_laws.proofs.Standing.{within, kids, is_good, is_line_body, formed}
@@ -204,12 +204,19 @@ near_suffix l under known u name =
     by false e = refl
 
 near_node : (l : Label) (under rest : Forest) → IsNode l under → NearSame (narrowed under) under → NearSame (narrowed rest) rest → (b c : Bool) → is_node l Suffix ≡ b → (name : ℕ)
-    → listed name (if b then Some (if is_list (renumbered l) then Some (narrowed under) else None) else (if c then option_or (nearest_of (narrowed rest)) (Some None) else option_or (nearest_of (narrowed under)) (nearest_of (narrowed rest))))
-    ≡ listed name (if b then Some (if is_list l then Some under else None) else (if c then option_or (nearest_of rest) (Some None) else option_or (nearest_of under) (nearest_of rest)))
+    → listed name (if b then Some (if is_list (renumbered l) then Some (narrowed under) else None)
+    else (if c then option_or (nearest_of (narrowed rest)) (Some None) else option_or (if is_aside l then None else nearest_of (narrowed under)) (nearest_of (narrowed rest))))
+    ≡ listed name (if b then Some (if is_list l then Some under else None)
+    else (if c then option_or (nearest_of rest) (Some None) else option_or (if is_aside l then None else nearest_of under) (nearest_of rest)))
 near_node l under rest known e r true c u name = near_suffix l under known u name
 near_node l under rest known e r false true u name = or_same name (nearest_of (narrowed rest)) (nearest_of rest) (Some None) (Some None) (r name) refl
 near_node l under rest known e r false false u name =
-    or_same name (nearest_of (narrowed under)) (nearest_of under) (nearest_of (narrowed rest)) (nearest_of rest) (e name) (r name)
+    or_same name (if is_aside l then None else nearest_of (narrowed under)) (if is_aside l then None else nearest_of under) (nearest_of (narrowed rest)) (nearest_of rest)
+    (by (is_aside l)) (r name)
+  where
+    by : (a : Bool) → listed name (if a then None else nearest_of (narrowed under)) ≡ listed name (if a then None else nearest_of under)
+    by true = refl
+    by false = e name
 
 nearest-same : (f : Forest) → formed true f ≡ true → NearSame (narrowed f) f
 nearest-same =

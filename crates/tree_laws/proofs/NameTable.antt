@@ -4,39 +4,45 @@ use Rattle.c99_grammar.specs.declared.dialects.Edition.{Edition}
 use Rattle.c99_tree.specs.declared.production.Label.{Label}
 use Rattle.c99_tree.specs.declared.production.Production.{Production}
 use Rattle.c99_tree.specs.declared.production.Production.TheVariants.{TranslationUnit, External, ExtRest, ExtTail, FunBody, Declaration, DeclRest, InitDecl, Sassert, Specs, Main, Mod, Qual, Word, StructSpec, SuRest, Members, Member, MemRest, Mdecl, EnumSpec, EnRest, Enumerators, Enumerator, Declarator, Pointer, Direct, Suffix, Bound, Params, Param, Pdecl, Pdirect, TypeName, Adecl, Adirect, Init, InitList, InitItem, Designator, Expr, Assign, Asgop, Cond, Lor, Land, Bor, Bxor, Band, Equal, Relate, Shift, Add, Mul, Cast, CastRest, Unary, SizeRest, SizeLit, Primary, Post, Args, Block, BlockItem, Statement, Sub, ForInit, AutoDecl, Attr, AttrItem, AttrWord, AsmName, Operand, Association, MemberPath, AsmPart, AsmOperand}
-use Rattle.c99_grammar.specs.Standard.{iso}
+use Rattle.c99_grammar.specs.Standard.{Grammar, iso}
 use Rattle.c99_grammar.proofs.StandardLemmas.{by_edition}
 use Rattle.c99_grammar.specs.Items.{Alternative}
+use Rattle.tree_laws.specs.TreesOfTexts.{is_name_place}
 use Rattle.tree_laws.proofs.Walked.{fit_from}
 use Rattle.tree_laws.proofs.NamePlaces.{is_first, fits}
 
 abbrev pub labelled : Production → ℕ → Label
 labelled p n = record { production = p; alternative = n }
 
-abbrev pub fits_at : Production → ℕ → Alternative → Bool
-fits_at p n a = fits (labelled p n) a.body is_first
+module _ (stands : Label → ℕ → Bool) where
+  abbrev pub fits_at : Production → ℕ → Alternative → Bool
+  fits_at p n a = fits stands (labelled p n) a.body is_first
+
+  -- the rows of a grammar are so
+  abbrev pub TableFits : Grammar → Type 0
+  TableFits g = (p : Production) → fit_from (fits_at p) 1 (g.table p) ≡ true
 
 module _ (std : Edition) where
-  pub table_fits : (p : Production) → fit_from (fits_at p) 1 ((iso std).table p) ≡ true
+  pub table_fits : (p : Production) → fit_from (fits_at is_name_place p) 1 ((iso std).table p) ≡ true
   table_fits TranslationUnit = refl
-  table_fits External = by_edition (λ s. fit_from (fits_at External) 1 ((iso s).table External) ≡ true) refl refl std
+  table_fits External = by_edition (λ s. fit_from (fits_at is_name_place External) 1 ((iso s).table External) ≡ true) refl refl std
   table_fits ExtRest = refl
   table_fits ExtTail = refl
   table_fits FunBody = refl
-  table_fits Declaration = by_edition (λ s. fit_from (fits_at Declaration) 1 ((iso s).table Declaration) ≡ true) refl refl std
+  table_fits Declaration = by_edition (λ s. fit_from (fits_at is_name_place Declaration) 1 ((iso s).table Declaration) ≡ true) refl refl std
   table_fits DeclRest = refl
   table_fits InitDecl = refl
-  table_fits Sassert = by_edition (λ s. fit_from (fits_at Sassert) 1 ((iso s).table Sassert) ≡ true) refl refl std
+  table_fits Sassert = by_edition (λ s. fit_from (fits_at is_name_place Sassert) 1 ((iso s).table Sassert) ≡ true) refl refl std
   table_fits Specs = refl
   table_fits Main = refl
-  table_fits Mod = by_edition (λ s. fit_from (fits_at Mod) 1 ((iso s).table Mod) ≡ true) refl refl std
+  table_fits Mod = by_edition (λ s. fit_from (fits_at is_name_place Mod) 1 ((iso s).table Mod) ≡ true) refl refl std
   table_fits Qual = refl
   table_fits Word = refl
   table_fits StructSpec = refl
   table_fits SuRest = refl
   table_fits Members = refl
-  table_fits Member = by_edition (λ s. fit_from (fits_at Member) 1 ((iso s).table Member) ≡ true) refl refl std
-  table_fits MemRest = by_edition (λ s. fit_from (fits_at MemRest) 1 ((iso s).table MemRest) ≡ true) refl refl std
+  table_fits Member = by_edition (λ s. fit_from (fits_at is_name_place Member) 1 ((iso s).table Member) ≡ true) refl refl std
+  table_fits MemRest = by_edition (λ s. fit_from (fits_at is_name_place MemRest) 1 ((iso s).table MemRest) ≡ true) refl refl std
   table_fits Mdecl = refl
   table_fits EnumSpec = refl
   table_fits EnRest = refl

@@ -1,7 +1,7 @@
 -- How often a token may be noted as a name, by its place in the tree: once at most.
 use Rattle.std.proofs.Common.{ℕ, ◌+◌, ◌<◌, ◌≤◌, ◌≡◌, Bool, true, false, ◌&&◌, ◌||◌, if◌then◌else◌, ◌==◌, Option, None, Some, ◌⊎◌, inl, inr, refl, sym, ap, subst, ◌∙◌, arith}
 use Rattle.std.specs.Prelude.{IfSome, nat_lt}
-use Rattle.std.proofs.lemmas.Bool.{cases_Bool, cases_eq, eq-eqb, ne_eqb, ltb-true, ltb-false, and_parts}
+use Rattle.std.proofs.lemmas.Bool.{cases_Bool, cases_eq, ne_eqb, ltb-true, ltb-false, and_parts}
 use Rattle.c99_tree.specs.Tree.{Forest, none, token, node}
 use Rattle.c99_tree.specs.declared.production.Label.{Label}
 use Rattle.c99_tree.specs.declared.production.Production.{Production}
@@ -23,9 +23,6 @@ abbrev pub hits : ℕ → Option ℕ → ℕ
 hits t None = 0
 hits t (Some x) = hit t x
 
-hit_yes : (t x : ℕ) → x ≡ t → hit t x ≡ 1
-hit_yes t x e = ap (λ c. if c then 1 else 0) (eq-eqb x t e)
-
 pub hit_no : (t x : ℕ) → (x ≡ t → ⊥) → hit t x ≡ 0
 hit_no t x e = ap (λ c. if c then 1 else 0) (ne_eqb x t e)
 
@@ -35,10 +32,6 @@ bit_at_most false = omega arith
 
 hit_at_most : (t x : ℕ) → hit t x ≤ 1
 hit_at_most t x = bit_at_most (x == t)
-
-hits_no : (t : ℕ) (o : Option ℕ) → IfSome o (λ x. x ≡ t → ⊥) → hits t o ≡ 0
-hits_no t None h = refl
-hits_no t (Some x) h = hit_no t x h
 
 -- ---- What may note a token
 

@@ -11,7 +11,7 @@ use Rattle.c_types.specs.declared.lists.List.{List as NameList}
 use Rattle.c_types.specs.declared.lists.Range.{Range}
 use Rattle.c_types.specs.Trees.{is_node, is_at, name_below, first_token, last_token}
 use Rattle.c_types.specs.Lists.{list_of, call_in, calls_in, body_of, tail_of, definition_in, bodies_in, nearest_of, own_list, declarator_in, is_declaring, lists_in}
-use Rattle.tree_laws.specs.TreesOfTexts.{token_count, AreFrom, has_token, has_body, has_declaring, has_form, have_forms}
+use Rattle.tree_laws.specs.TreesOfTexts.{token_count, AreFrom, has_token, has_body, has_declaring, has_form, have_forms, have_plain_declarators}
 use Rattle.tree_laws.proofs.InLists.{false≢true}
 use Rattle.tree_laws.proofs.Noted.{Within, name_within, form_here, forms_under, forms_behind}
 use Rattle.tree_laws.proofs.Climbing.{Climbs, climbs_lower, climbs_append, Laid, laid_append}
@@ -99,9 +99,16 @@ lists_none (node l first under rest) h =
     ∙ (ap (λ x. x ++ lists_in rest) (lists_none under ((or_parts (has_declaring under) (has_declaring rest) more).0))
     ∙ lists_none rest ((or_parts (has_declaring under) (has_declaring rest) more).1))
 
-declarator_form : (p : Production) (under : Forest) → ghosts.eq p Declarator ≡ true → has_form p under ≡ true → has_declaring under ≡ false
-declarator_form Declarator under same form = not-true (has_declaring under) form
-declarator_form _ under same form = absurd (false≢true same)
+declarator_form : (c d : Bool) → (not c || not d) ≡ true → c ≡ true → d ≡ false
+declarator_form true d form same = not-true d form
+declarator_form false d form same = absurd (false≢true same)
+
+-- what is so of the first child, below it and behind it
+plain_parts : (l : Label) (first : ℕ) (under rest : Forest) → have_plain_declarators (node l first under rest) ≡ true
+    → ((not (is_node l Declarator) || not (has_declaring under)) ≡ true) × ((have_plain_declarators under ≡ true) × (have_plain_declarators rest ≡ true))
+plain_parts l first under rest h =
+    let here = and_parts (not (is_node l Declarator) || not (has_declaring under)) (have_plain_declarators under && have_plain_declarators rest) h in
+    (here.0, and_parts (have_plain_declarators under) (have_plain_declarators rest) here.1)
 
 declarator_declares : (l : Label) (p : Production) → l.production ≡ p → ghosts.eq p Declarator ≡ true → is_declaring l ≡ false
 declarator_declares l Declarator e same = ap (λ q. ghosts.eq q ExtRest || ghosts.eq q InitDecl) e
@@ -122,37 +129,38 @@ declarator_case true k j high o n all behind same w less h b =
 declarator_case false k j high o n all behind same w less h b = h
 
 -- in front of a declarator's own list nothing is declared
-declarator_alone : (l : Label) (under rest : Forest) → has_form l.production under ≡ true → is_node l Declarator ≡ true
+declarator_alone : (l : Label) (under rest : Forest) → (not (is_node l Declarator) || not (has_declaring under)) ≡ true → is_node l Declarator ≡ true
     → ((if is_declaring l then declarator_in under else []) ++ lists_in under) ++ lists_in rest ≡ lists_in rest
 declarator_alone l under rest form same =
     ap (λ x. (x ++ lists_in under) ++ lists_in rest) (if_none (is_declaring l) (declarator_in under) (declarator_declares l l.production refl same))
-    ∙ ap (λ x. x ++ lists_in rest) (lists_none under (declarator_form l.production under same form))
+    ∙ ap (λ x. x ++ lists_in rest) (lists_none under (declarator_form (is_node l Declarator) (has_declaring under) form same))
 
-declarator_climbs : (under : Forest) (k : ℕ) → AreFrom k under → have_forms under ≡ true → Climbs name_of_list k (k + token_count under) (lists_in under)
+declarator_climbs : (under : Forest) (k : ℕ) → AreFrom k under → have_plain_declarators under ≡ true → Climbs name_of_list k (k + token_count under) (lists_in under)
     → ListsBehind k under → Climbs name_of_list k (k + token_count under) (declarator_in under ++ lists_in under)
 declarator_climbs none k w forms whole behind = whole
 declarator_climbs (token i rest) k w forms whole behind = whole
 declarator_climbs (node l first under rest) k w forms whole behind =
     declarator_case (is_node l Declarator) k (k + token_count under) (k + (token_count under + token_count rest)) (name_below l under) (nearest_of under)
-    (lists_in (node l first under rest)) (lists_in rest) (declarator_alone l under rest (form_here l.production under rest forms))
+    (lists_in (node l first under rest)) (lists_in rest) (declarator_alone l under rest (plain_parts l first under rest forms).0)
     (name_within l under k w.1) (omega arith) whole behind
 
-lists_both : (f : Forest) (k : ℕ) → AreFrom k f → have_forms f ≡ true → (Climbs name_of_list k (k + token_count f) (lists_in f)) × ListsBehind k f
+lists_both : (f : Forest) (k : ℕ) → AreFrom k f → have_plain_declarators f ≡ true → (Climbs name_of_list k (k + token_count f) (lists_in f)) × ListsBehind k f
 lists_both none k w forms = (omega arith, tt)
 lists_both (token i rest) k w forms =
     let behind = lists_both rest (k + 1) w.1 forms in
     (climbs_lower name_of_list k (k + 1) (k + (token_count rest + 1)) (lists_in rest) (omega arith) (higher k (token_count rest) (lists_in rest) behind.0), tt)
 lists_both (node l first under rest) k w forms =
-    let below = lists_both under k w.1 (forms_under l.production under rest forms) in
-    let behind = lists_both rest (k + token_count under) w.2 (forms_behind l.production under rest forms) in
+    let parts = plain_parts l first under rest forms in
+    let below = lists_both under k w.1 parts.1.0 in
+    let behind = lists_both rest (k + token_count under) w.2 parts.1.1 in
     let later : Climbs name_of_list (k + token_count under) (k + (token_count under + token_count rest)) (lists_in rest) = moved k (token_count under) (token_count rest) (lists_in rest) behind.0 in (
       climbs_append name_of_list k (k + token_count under) (k + (token_count under + token_count rest)) ((if is_declaring l then declarator_in under else []) ++ lists_in under) (lists_in rest)
           (if_calls (is_declaring l) k (k + token_count under) (declarator_in under) (lists_in under)
-          (declarator_climbs under k w.1 (forms_under l.production under rest forms) below.0 below.1) below.0) later,
+          (declarator_climbs under k w.1 parts.1.0 below.0 below.1) below.0) later,
       later,
     )
 
-pub lists_climb : (f : Forest) (k : ℕ) → AreFrom k f → have_forms f ≡ true → Climbs name_of_list k (k + token_count f) (lists_in f)
+pub lists_climb : (f : Forest) (k : ℕ) → AreFrom k f → have_plain_declarators f ≡ true → Climbs name_of_list k (k + token_count f) (lists_in f)
 lists_climb f k w forms = (lists_both f k w forms).0
 
 -- ---- Bodies

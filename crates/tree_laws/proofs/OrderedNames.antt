@@ -40,7 +40,7 @@ module _ (name : Occurrence → Name) (index_is : (o : Occurrence) → (name o).
       let e : x.index ≡ o.index = sym (index_is x) ∙ (same ∙ index_is o) in
       omega (arith, once, hit_itself o.index, subst (λ t. 1 ≤ count_in t os) e (in_counted x os w))
 
-  once_pairs : (os : List Occurrence) → ((t : ℕ) → count_in t os ≤ 1) → AllPairs (λ (m n : Name). m.index ≢ n.index) (reverse (map name os))
+  pub once_pairs : (os : List Occurrence) → ((t : ℕ) → count_in t os ≤ 1) → AllPairs (λ (m n : Name). m.index ≢ n.index) (reverse (map name os))
   once_pairs [] once = pairs_none (λ (m n : Name). m.index ≢ n.index)
   once_pairs (o ∷ os) once =
       subst (λ (ns : List Name). AllPairs (λ (m n : Name). m.index ≢ n.index) ns) (sym (reverse-cons (name o) (map name os)))
@@ -70,7 +70,7 @@ parameter_lists_ordered toks tree b w e =
     let p : NameList → Bool = λ l. is_of_function (names_of facts) l.name in
     subst (λ (x : Bound). AllPairs (λ (l m : NameList). l.name < m.name) x.declarators) (sym (binding_is toks tree b e))
     (climbs_pairs name_of_list 0 (0 + token_count tree.under) (filter p (lists_in tree.under))
-    (climbs_filter name_of_list 0 (0 + token_count tree.under) p (lists_in tree.under) (lists_climb tree.under 0 w.tokens w.forms)))
+    (climbs_filter name_of_list 0 (0 + token_count tree.under) p (lists_in tree.under) (lists_climb tree.under 0 w.is_tree.tokens w.plain)))
 
 pub argument_lists_ordered : ArgumentListsAreInOrder
 argument_lists_ordered toks tree b w e =

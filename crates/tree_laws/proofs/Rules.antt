@@ -10,7 +10,7 @@ use Rattle.c99_tree.specs.declared.production.Production.TheVariants.{ExtRest, F
 use Rattle.c99_grammar.specs.Items.{Item, one, part, end_of_text, act, ◌·◌, choice, maybe, many, deep}
 use Rattle.c99_tree.specs.contracts.production.ProductionPartialEq.TheImpl.{ghosts}
 use Rattle.c99_grammar.specs.Standard.{iso}
-use Rattle.c99_read.specs.State.{base_at, is_identifier, collapses, nearest, is_mod, is_main, is_specs, is_typedef_part, typedef_word_in, has_typedef}
+use Rattle.c99_read.specs.State.{base_at, is_identifier, collapses, nearest, is_mod, is_main, is_typedef_part, typedef_word_in, has_typedef}
 use Rattle.scope_bind.specs.Named.{Scope}
 use Rattle.c_types.specs.Trees.{is_at, is_node, has_node, has_mod, last_token}
 use Rattle.name_chains.specs.Entering.{inner as inner_scope, is_scoped, scope_in}
@@ -164,10 +164,6 @@ same_word (node l first under rest) h =
     main_case : (c : Bool) → (if c then not (has_node Main under) else true) ≡ true → (c && typedef_word_in under) ≡ (c && has_mod 1 under)
     main_case true k = words_below under (not-true (has_node Main under) k)
     main_case false k = refl
-
-specs_same : (p : Production) → is_specs p ≡ ghosts.eq p Specs
-specs_same Specs = refl
-specs_same _ = refl
 
 -- the nearest specifiers, once a node of the production is closed
 pub nearest_same : (p : Production) (n : ℕ) (built : Node) (under : Forest) (near : Bool) → built.under ≡ under → all_hold p under ≡ true

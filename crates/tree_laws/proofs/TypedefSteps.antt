@@ -28,10 +28,6 @@ pub after_if : (P : State → Type 0) (b : Bool) (r r' : Step) → After P r →
 after_if P true r r' m m' = m
 after_if P false r r' m m' = m'
 
-pub after_then : (P Q : State → Type 0) (r : Step) (next_step : State → Step) → After P r → ((s : State) → P s → After Q (next_step s)) → After Q (and_then r next_step)
-after_then P Q (Err stop) next_step m n = tt
-after_then P Q (Ok s) next_step m n = n s m
-
 -- more tokens were read, where the production has one
 abbrev pub Grows : Production → State → State → Type 0
 Grows p s s' = never_empty p ≡ true → s.at < s'.at

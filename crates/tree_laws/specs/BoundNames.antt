@@ -10,7 +10,7 @@ use Rattle.c_types.specs.Declarations.{alike, has_linkage}
 use Rattle.name_chains.specs.Frames.{outermost}
 use Rattle.scope_bind.specs.Bound.{Bound, binding_of}
 use Rattle.scope_bind.specs.Names.{entity_at, linkage_at}
-use Rattle.tree_laws.specs.TreesOfTexts.{names_pass, IsTreeOf}
+use Rattle.tree_laws.specs.TreesOfTexts.{names_pass, IsTreeOf, IsPlainTree}
 
 -- the text binds so
 abbrev pub Binds : List Token → Node → Bound → Type 0
@@ -61,10 +61,11 @@ BoundNamesPass =
 
 -- ---- Lists (6.7.5.3, 6.5.2.2) and bodies (6.9.1)
 
--- the parameter lists stand in order of the declared names, each of which has one at most
+-- The parameter lists stand in order of the declared names, each of which has one at most, where no block stands in a
+-- declarator: there another declarator could stand in front of the name.
 abbrev pub ParameterListsAreInOrder : Type 0
 ParameterListsAreInOrder =
-    (toks : List Token) (tree : Node) (b : Bound) → IsTreeOf (length toks) tree → Binds toks tree b
+    (toks : List Token) (tree : Node) (b : Bound) → IsPlainTree (length toks) tree → Binds toks tree b
     → AllPairs (λ (l m : NameList). l.name < m.name) b.declarators
 
 -- the argument lists stand in order of the names that are called, each of which has one at most

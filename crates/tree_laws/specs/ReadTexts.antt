@@ -1,11 +1,12 @@
 -- What is true of the tree of every text that is read.
 use Rattle.std.specs.Prelude.{ℕ, ◌<◌, ◌≤◌, ◌≡◌, ◌≢◌, true, List, length, Some, Ok, IfErr, All, AllPairs}
+use Rattle.c99_grammar.specs.declared.dialects.Dialect.{Dialect}
 use Rattle.c99_grammar.specs.declared.dialects.Edition.{Edition}
 use Rattle.cs_base.specs.Token.{Token}
 use Rattle.c99_tree.specs.Tree.{Node}
 use Rattle.c99_read.specs.Reading.{Stop, syntax, too_deep, read_of}
 use Rattle.c99_read.specs.State.{base_at, is_identifier}
-use Rattle.c99_grammar.specs.Standard.{Grammar, iso}
+use Rattle.c99_grammar.specs.Standard.{Grammar, iso, grammar}
 use Rattle.scope_bind.specs.declared.bound.Name.{Name}
 use Rattle.c_types.specs.declared.lists.List.{List as NameList}
 use Rattle.c_types.specs.declared.lists.Range.{Range}
@@ -13,7 +14,7 @@ use Rattle.scope_bind.specs.Causes.{index_of}
 use Rattle.scope_bind.specs.Bound.{Bound, binding_of}
 use Rattle.c_types.specs.Declarations.{alike, has_linkage}
 use Rattle.scope_bind.specs.Names.{entity_at, linkage_at}
-use Rattle.tree_laws.specs.TreesOfTexts.{AreFrom, token_count, IsTreeOf}
+use Rattle.tree_laws.specs.TreesOfTexts.{AreFrom, token_count, IsTreeOf, IsPlainTree}
 use Rattle.tree_laws.specs.BoundNames.{Binds, IsBody}
 use Rattle.tree_laws.specs.Shapes.{reads_all}
 
@@ -30,9 +31,13 @@ abbrev pub AllTokensStandInTrees : Type 0
 AllTokensStandInTrees =
     (g : Grammar) (toks : List Token) (tree : Node) → reads_all g ≡ true → Reads g toks tree → token_count tree.under ≡ length toks
 
--- by each edition the tree that is read is one of the text (ISO/IEC 9899:1999 and 9899:2011, Annex A.2)
+-- by each dialect the tree that is read is one of the text (ISO/IEC 9899:1999 and 9899:2011, Annex A.2)
 abbrev pub TreesAreOfTheirTexts : Type 0
-TreesAreOfTheirTexts = (s : Edition) (toks : List Token) (tree : Node) → Reads (iso s) toks tree → IsTreeOf (length toks) tree
+TreesAreOfTheirTexts = (d : Dialect) (toks : List Token) (tree : Node) → Reads (grammar d) toks tree → IsTreeOf (length toks) tree
+
+-- .. and by each edition one in whose declarators no block stands
+abbrev pub TreesOfEditionsArePlain : Type 0
+TreesOfEditionsArePlain = (s : Edition) (toks : List Token) (tree : Node) → Reads (iso s) toks tree → IsPlainTree (length toks) tree
 
 -- the index of the token at which reading stops
 abbrev pub place_of : Stop → ℕ

@@ -9,9 +9,9 @@
 //! with linkage is one entity, the token that names an entity is a name of it, what is true of tokens where names stand
 //! is true of names, lists stand in order of their names, and bodies stand apart. `trees.rt` speaks of `read_of` of the
 //! crate `c99_read`: the tokens of a tree stand in the order of the text, whatever the grammar, and a tree of C is one
-//! of its text. So `bindings.rt` has the laws of `bound.rt` for each text that is read and bound, with no premise on
-//! its tree. Reading is proved by one induction (`proofs/Walked.antt`); what is special to C is `specs/Shapes.antt`,
-//! held against the table.
+//! of its text, GNU C too. So `bindings.rt` has the laws of `bound.rt` for each text that is read by an edition and
+//! bound, with no premise on its tree. Reading is proved by one induction (`proofs/Walked.antt`); what is special to C
+//! is `specs/Shapes.antt`, held against the tables.
 //!
 //! `told.rt` says what a binding tells of the identifiers in a tree, where no fault stands, `specs/Told.antt` for each
 //! node: what declares a tag, an enumeration constant or an ordinary identifier, what uses one, and that two parameters

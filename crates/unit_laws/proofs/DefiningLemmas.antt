@@ -1,11 +1,12 @@
 -- Definitions, and directives that ask for a name: what is true of what they give.
-use Rattle.std.proofs.Common.{◌≡◌, ℕ, Bool, true, false, cond, List, [], ◌∷◌, take, drop, Option, Some, None, refl, sym, subst, inl, inr}
+use Rattle.std.proofs.Common.{◌≡◌, ℕ, Bool, true, false, cond, List, [], ◌∷◌, take, drop, Option, Some, None, refl, sym, subst, inl, inr, Ok, Err}
 use Rattle.std.specs.List.{flat_map}
 use Rattle.std.specs.Option.{option_map}
 use Rattle.std.specs.Str.{bytes_eq}
 use Rattle.std.proofs.lemmas.Bool.{cases_Bool}
 use Rattle.std.proofs.lemmas.Option.{none-some, same_Some}
 use Rattle.std.proofs.lemmas.Slice.Eq.{bytes_eq-Decides}
+use Rattle.cs_base.specs.declared.causes.Cause.TheVariants.{BadDirective}
 use Rattle.cs_base.specs.declared.positions.Pos.{Pos}
 use Rattle.cs_base.specs.Token.{Token}
 use Rattle.line_shape.specs.declared.items.ItemKind.{ItemKind}
@@ -15,14 +16,15 @@ use Rattle.line_shape.specs.Items.{line_kind}
 use Rattle.line_shape.specs.MacroLine.{MacroParts, macro_of}
 use Rattle.macro_body.specs.declared.definitions.Form.TheVariants as form
 use Rattle.macro_body.specs.declared.definitions.Definition.{Definition}
-use Rattle.macro_body.specs.Defining.{form_of, definition_of, defined_by}
+use Rattle.macro_body.specs.Defining.{form_of, definition_of, defined_by, in_gnu}
+use Rattle.source_files.specs.Faults.{fault_at}
 use Rattle.source_files.specs.Files.{SourceFile, Table}
 use Rattle.unit_steps.specs.Notes.{Note}
-use Rattle.unit_steps.specs.State.{State}
+use Rattle.unit_steps.specs.State.{State, did}
 use Rattle.unit_steps.specs.Names.{spelled_in, linked_with, name_links, parameter_named, definition_links}
-use Rattle.unit_steps.specs.Directives.{operand_in, after_define, defined_as, define_of, undefined_as, undef_of, asks_name}
+use Rattle.unit_steps.specs.Directives.{operand_in, after_define, defined_as, define_of, undefined_as, undef_of, asks_name, define_notes, may_define}
 use Rattle.expansion_laws.proofs.ListLemmas.{AllToks}
-use Rattle.unit_laws.proofs.DoneLemmas.{AllIn, all_both, NotedSo, NameHas, MacroHas, StateHas, Done}
+use Rattle.unit_laws.proofs.DoneLemmas.{AllIn, all_both, NotedSo, NameHas, MacroHas, StateHas, Done, done_cond}
 use Rattle.unit_laws.proofs.PartLemmas.{directive_name, PartsHave, macro_has, spelled_has}
 use Rattle.unit_laws.proofs.NamingLemmas.{name_grown, linked_so, name_links_so, with_name_has}
 
@@ -85,23 +87,31 @@ module _ (P : Token → Type 0) (M : Note → Type 0) (table : Table) where
         names = named.names;
       }
 
-  defined_as_done : (pre : Type 0) (file : SourceFile) (at : Pos) (s : State) (o : Option Definition) → ((m : Definition) → o ≡ Some m → pre → DefinitionHas P m)
-      → Done P M table pre (AllToks P) s (defined_as file at s o)
-  defined_as_done pre file at s None h = tt
-  defined_as_done pre file at s (Some m) h = (
+  own_has : (gnu : Bool) (m : Definition) → DefinitionHas P m → DefinitionHas P (in_gnu gnu m)
+  own_has gnu m d = record { name = d.name; params = d.params; body = d.body; line = d.line }
+
+  defined_done : (pre : Type 0) (s : State) (m : Definition) → (pre → DefinitionHas P m) → Done P M table pre (AllToks P) s (Ok (did [] (define_notes m s) (after_define m s)))
+  defined_done pre s m h = (
     name_grown m.name s,
     λ p reach has told.
-        let d = h m refl p in (
+        let d = h p in (
           tt,
           after_define_has m s d has,
           (d.name.0, all_both (NotedSo P) (name_links m.name s) (definition_links m) (name_links_so P m.name s d.name has) (uses_so m.params m.body d.params d.body)),
         ),
   )
 
-  pub define_done : (k : ItemKind) (file : SourceFile) (at : Pos) (toks : List Token) (s : State) → takes_name k ≡ true
-      → Done P M table (AllToks P (drop 2 toks) × (line_kind toks ≡ k)) (AllToks P) s (define_of file at toks s)
-  define_done k file at toks s takes =
-      defined_as_done (AllToks P (drop 2 toks) × (line_kind toks ≡ k)) file at s (defined_by toks) (λ m e p. defined_by_has k toks m takes p.0 p.1 e)
+  defined_as_done : (pre : Type 0) (gnu : Bool) (file : SourceFile) (at : Pos) (s : State) (o : Option Definition) → ((m : Definition) → o ≡ Some m → pre → DefinitionHas P m)
+      → Done P M table pre (AllToks P) s (defined_as gnu file at s o)
+  defined_as_done pre gnu file at s None h = tt
+  defined_as_done pre gnu file at s (Some m) h =
+      done_cond P M table pre (AllToks P) s (may_define gnu m) (Ok (did [] (define_notes (in_gnu gnu m) s) (after_define (in_gnu gnu m) s))) (Err (fault_at file at BadDirective))
+      (defined_done pre s (in_gnu gnu m) (λ p. own_has gnu m (h m refl p))) tt
+
+  pub define_done : (k : ItemKind) (gnu : Bool) (file : SourceFile) (at : Pos) (toks : List Token) (s : State) → takes_name k ≡ true
+      → Done P M table (AllToks P (drop 2 toks) × (line_kind toks ≡ k)) (AllToks P) s (define_of gnu file at toks s)
+  define_done k gnu file at toks s takes =
+      defined_as_done (AllToks P (drop 2 toks) × (line_kind toks ≡ k)) gnu file at s (defined_by toks) (λ m e p. defined_by_has k toks m takes p.0 p.1 e)
 
   operand_has : (k : ItemKind) (toks : List Token) (name : Token) → takes_name k ≡ true → AllToks P (take 1 (drop 2 toks)) → line_kind toks ≡ k → operand_in toks ≡ Some name → NameHas P name
   operand_has k [] name takes h is e = absurd (none-some name e)

@@ -3,6 +3,8 @@ use Rattle.std.proofs.Common.{◌≡◌, ℕ, Bool, true, false, cond, List, [],
 use Rattle.std.specs.Prelude.{slice_get}
 use Rattle.cs_base.specs.declared.positions.Pos.{Pos}
 use Rattle.cs_base.specs.Token.{Token}
+use Rattle.line_shape.specs.declared.items.ItemKind.{ItemKind}
+use Rattle.line_shape.specs.declared.items.ItemKind.TheVariants.{Pragma}
 use Rattle.line_shape.specs.Directives.{is_include}
 use Rattle.line_shape.specs.Signs.{is_name}
 use Rattle.macro_body.specs.Below.paste_origin.Pasting.{glue_of}
@@ -15,7 +17,7 @@ use Rattle.macro_body.specs.Defining.{line_macro}
 use Rattle.macro_expand.specs.Expansion.{links_name}
 use Rattle.source_files.specs.Faults.{Fault}
 use Rattle.source_files.specs.Files.{SourceFile, Table}
-use Rattle.unit_steps.specs.Notes.{Note, Reaches, Happened, Defined, Undefined, Tested, Left, Linked, Answered, Named, Entered, Exited}
+use Rattle.unit_steps.specs.Notes.{Note, Reaches, Happened, Defined, Undefined, Tested, Left, Linked, Answered, Named, Entered, Exited, ReadOnce}
 use Rattle.unit_steps.specs.State.{State, Did, Outcome, only, noted, onward}
 use Rattle.unit_steps.specs.Conditions.{answer_for}
 use Rattle.source_files.specs.Tables.{IsGrown}
@@ -43,10 +45,15 @@ all_both Q (x ∷ xs) ys h k = (h.0, all_both Q xs ys h.1 k)
 abbrev pub PlaceHas : (Token → Type 0) → Pos → Type 0
 PlaceHas P at = (t : Token) × (P t × (t.at ≡ at))
 
--- what is taken from an item has P, and an include line stands where such a token stands
+-- a line that stands somewhere in a unit: one that includes a file, or may say something of its own
+abbrev pub tells_place : ItemKind → Bool
+tells_place Pragma = true
+tells_place k = is_include k
+
+-- what is taken from an item has P, and such a line stands where such a token stands
 pub record TakenHas (P : Token → Type 0) (evaluated : Bool) (i : ItemText) : Type 0 where
   pub toks : AllToks P (taken i.kind evaluated i.toks)
-  pub at : is_include i.kind ≡ true → PlaceHas P i.at
+  pub at : tells_place i.kind ≡ true → PlaceHas P i.at
 
 -- What keeps P of tokens: of the notes of a unit M is known, and of the kept files the table behind it.
 pub record UnitRules (P : Token → Type 0) (M : Note → Type 0) (table : Table) : Type 0 where
@@ -87,6 +94,7 @@ NotedSo P (Answered t) = P t × IsAnswer t
 NotedSo P (Named toks) = AllToks P toks
 NotedSo P (Entered at file before) = PlaceHas P at
 NotedSo P (Exited at file before) = PlaceHas P at
+NotedSo P (ReadOnce passed at file before) = PlaceHas P at
 
 -- ---- what is true at each moment
 

@@ -1,9 +1,10 @@
 -- Lines of directives do over the edited files what they did.
-use Rattle.std.proofs.Common.{◌≡◌, ℕ, ◌+◌, Bool, true, false, cond, is_some, List, [], ◌∷◌, ◌++◌, length, map, drop, codes, Option, Some, None, Result, Ok, Err, refl, ap, sym, subst, ◌∙◌}
+use Rattle.std.proofs.Common.{◌≡◌, ℕ, ◌+◌, Bool, true, false, cond, is_some, List, [], ◌∷◌, ◌++◌, length, map, drop, codes, Option, Some, None, Result, Ok, Err, ◌&&◌, refl, ap, sym, subst, ◌∙◌}
 use Rattle.std.specs.List.{list_any, flat_map}
 use Rattle.std.specs.Option.{option_map}
 use Rattle.std.specs.Str.{bytes_eq}
 use Rattle.std.proofs.lemmas.Option.{none-some, same_Some}
+use Rattle.cs_base.specs.declared.causes.Cause.TheVariants.{BadDirective}
 use Rattle.cs_base.specs.declared.causes.Cause.TheVariants as cause
 use Rattle.cs_base.specs.declared.positions.Pos.{Pos}
 use Rattle.cs_base.specs.Token.{Token}
@@ -13,7 +14,7 @@ use Rattle.unit_steps.specs.Below.cond_eval.Evaluation.{condition}
 use Rattle.line_shape.specs.Signs.{is_name}
 use Rattle.macro_body.specs.declared.definitions.Definition.{Definition}
 use Rattle.line_shape.specs.MacroLine.{MacroParts, macro_of}
-use Rattle.macro_body.specs.Defining.{form_of, definition_of, defined_by, line_macro}
+use Rattle.macro_body.specs.Defining.{form_of, definition_of, defined_by, line_macro, in_gnu}
 use Rattle.macro_body.specs.declared.definitions.Form.TheVariants as form
 use Rattle.macro_body.specs.Hides.{toks_of}
 use Rattle.macro_body.specs.Live.{with_macro, without_macro}
@@ -22,22 +23,22 @@ use Rattle.macro_expand.specs.Expansion as expanding
 use Rattle.lexer.specs.FileText.{TextValue}
 use Rattle.source_files.specs.Faults.{fault_at}
 use Rattle.source_files.specs.Files.{SourceFile, Table}
-use Rattle.source_files.specs.HeaderNames.{is_header, header_in, header_of_toks}
-use Rattle.source_files.specs.Search.{Header}
+use Rattle.source_files.specs.HeaderNames.{is_header, header_in, header_of_toks, header_at, begins_header}
+use Rattle.source_files.specs.Search.{Header, behind_of}
 use Rattle.source_files.specs.Tables.{IsGrown, AreFound}
 use Rattle.source_files.proofs.TableLemmas.{grown_refl}
 use Rattle.unit_steps.specs.Conditions.{Piece, Plain, Asks, pieces_from, is_macro, test_notes, answer_for, answered, left_name, left_over, valued, judged, asked_pieces, holds, is_defined}
-use Rattle.unit_steps.specs.Directives.{operand_in, define_notes, after_define, defined_as, define_of, after_undef, undefined_as, undef_of, asks_name}
+use Rattle.unit_steps.specs.Directives.{operand_in, define_notes, after_define, defined_as, define_of, after_undef, undefined_as, undef_of, asks_name, says_once, with_once, said_once, pragma_of, is_read_once, may_define}
 use Rattle.unit_steps.specs.Expanding.{expanded_as, expanded_in}
-use Rattle.unit_steps.specs.IncludeNames.{header_or, computed_header, header_named}
+use Rattle.unit_steps.specs.IncludeNames.{header_or, computed_header, header_named, written_header, next_named}
 use Rattle.unit_steps.specs.Names.{spelled_in, linked_with, name_links, with_name, parameter_named, definition_links}
-use Rattle.unit_steps.specs.Notes.{Note, Happened, Defined, Undefined, Tested, Left, Answered, Entered, Exited, Named}
-use Rattle.unit_steps.specs.State.{State, Did, did, only, onward}
-use Rattle.include_tree.specs.Including.{Process, Inner, entered, included, include_of, open_header}
+use Rattle.unit_steps.specs.Notes.{Note, Happened, Defined, Undefined, Tested, Left, Answered, Entered, Exited, ReadOnce, Named}
+use Rattle.unit_steps.specs.State.{State, Did, did, Outcome, only, onward}
+use Rattle.include_tree.specs.Including.{Process, Inner, left_to, entered, unless_once, included, include_of, include_next_of, open_header}
 use Rattle.include_tree.specs.Walk.{items_in}
 use Rattle.unit_laws.specs.Edited.{Edit, edited_state}
 use Rattle.unit_laws.specs.Walking.{AreItemsAlike, text_items, KeepsTexts, with_text, IsEdited, IsReachedAt}
-use Rattle.unit_laws.proofs.ReorderedStepLemmas.{World, LineMacros, AreQuiet, quiet_both, Fits, Still, Goes, Same, itself, plus_none, none_begins, still_only, goes_noted, then_still, still_then, goes_then, still_cond, still_test}
+use Rattle.unit_laws.proofs.ReorderedStepLemmas.{World, LineMacros, AreQuiet, quiet_both, Fits, Still, Goes, Same, itself, plus_none, none_begins, still_only, goes_only, goes_noted, then_still, still_then, goes_then, goes_cond, still_cond, still_test}
 use Rattle.unit_laws.proofs.OpenLemmas.{FileGoes, ctx, ctx2, header_goes}
 
 -- ---- names
@@ -268,23 +269,29 @@ module _ (w : World) where
     };
   }
 
-  pub define_goes : (file new : SourceFile) (at : Pos) (toks : List Token) (s : State)
-      → Goes w itself Put s (define_of file at toks s) (define_of new at toks (edited_state w.edit s))
-  define_goes file new at toks s = by (defined_by toks) refl
+  defined_goes : (file new : SourceFile) (at : Pos) (m : Definition) (s : State) → (m.form ≡ form.Line → ⊥) → (b : Bool)
+      → Goes w itself Put s (cond b (Ok (did [] (define_notes m s) (after_define m s))) (Err (fault_at file at BadDirective)))
+      (cond b (Ok (did [] (define_notes m (edited_state w.edit s)) (after_define m (edited_state w.edit s)))) (Err (fault_at new at BadDirective)))
+  defined_goes file new at m s other false = tt
+  defined_goes file new at m s other true =
+      silent_goes s (did [] (define_notes m s) (after_define m s)) (did [] (define_notes m s) (after_define m (edited_state w.edit s)))
+      (record {
+        value = refl;
+        notes = refl;
+        state = ap (λ (t : State). record t { macros = with_macro m s.macros }) (name_edited w.edit m.name s);
+        table = name_table m.name s;
+        before = name_before m.name s;
+        lines = λ h name d e. with_line m d name (s.macros name) (bytes_eq name m.name.text) other (h name d) e;
+        quiet = define_quiet m s;
+      }) refl
+
+  pub define_goes : (gnu : Bool) (file new : SourceFile) (at : Pos) (toks : List Token) (s : State)
+      → Goes w itself Put s (define_of gnu file at toks s) (define_of gnu new at toks (edited_state w.edit s))
+  define_goes gnu file new at toks s = by (defined_by toks) refl
     where
-      by : (o : Option Definition) → defined_by toks ≡ o → Goes w itself Put s (defined_as file at s o) (defined_as new at (edited_state w.edit s) o)
+      by : (o : Option Definition) → defined_by toks ≡ o → Goes w itself Put s (defined_as gnu file at s o) (defined_as gnu new at (edited_state w.edit s) o)
       by None is = tt
-      by (Some m) is =
-          silent_goes s (did [] (define_notes m s) (after_define m s)) (did [] (define_notes m s) (after_define m (edited_state w.edit s)))
-          (record {
-            value = refl;
-            notes = refl;
-            state = ap (λ (t : State). record t { macros = with_macro m s.macros }) (name_edited w.edit m.name s);
-            table = name_table m.name s;
-            before = name_before m.name s;
-            lines = λ h name d e. with_line m d name (s.macros name) (bytes_eq name m.name.text) (defined_no_line toks m is) (h name d) e;
-            quiet = define_quiet m s;
-          }) refl
+      by (Some m) is = defined_goes file new at (in_gnu gnu m) s (defined_no_line toks m is) (may_define gnu m)
 
   pub undef_goes : (file new : SourceFile) (at : Pos) (toks : List Token) (s : State)
       → Goes w itself Put s (undef_of file at toks s) (undef_of new at toks (edited_state w.edit s))
@@ -303,6 +310,21 @@ module _ (w : World) where
             lines = λ h n d e. without_line d n (s.macros n) (bytes_eq n name.text) (h n d) e;
             quiet = behind_quiet (Undefined name s.before) (name_links name s) (λ b. ((tt, tt), (tt, tt))) (links_quiet name (spelled_in s.names name.text));
           }) refl
+
+  -- ---- files that are read once
+
+  -- the file of a line that says so
+  said_goes : (file : SourceFile) (text : TextValue) (at : Pos) (s : State) → Goes w itself Put s (said_once file at s) (said_once (with_text file text) at (edited_state w.edit s))
+  said_goes file text at s =
+      let note : Note = ReadOnce false at file.number s.before in
+      silent_goes s (did [] (note ∷ []) (with_once file.number s)) (did [] (note ∷ []) (with_once file.number (edited_state w.edit s)))
+      (record { value = refl; notes = refl; state = refl; table = refl; before = refl; lines = λ h. h; quiet = λ b. ((tt, tt), (tt, tt)) }) refl
+
+  pub pragma_goes : (gnu : Bool) (file : SourceFile) (text : TextValue) (at : Pos) (toks : List Token) (s : State)
+      → Goes w itself Put s (pragma_of gnu file at toks s) (pragma_of gnu (with_text file text) at toks (edited_state w.edit s))
+  pragma_goes gnu file text at toks s =
+      goes_cond w itself Put s (gnu && says_once toks) (said_once file at s) (only [] s) (said_once (with_text file text) at (edited_state w.edit s)) (only [] (edited_state w.edit s))
+      (said_goes file text at s) (goes_only w itself Put s [] [] (w.v_none s.before) refl)
 
   -- ---- include lines
 
@@ -329,6 +351,18 @@ module _ (w : World) where
       (only (header_in t.text) (edited_state w.edit s)) (computed_header (with_text file text) at (t ∷ toks) (edited_state w.edit s))
       (still_only w Same s (header_in t.text) (header_in t.text) refl) (computed_goes file text at (t ∷ toks) s)
 
+  written_goes : (file : SourceFile) (text : TextValue) (at : Pos) (s : State) (o : Option Header)
+      → Still w Same s (written_header file at s o) (written_header (with_text file text) at (edited_state w.edit s) o)
+  written_goes file text at s None = tt
+  written_goes file text at s (Some h) = still_only w Same s h h refl
+
+  next_named_goes : (file : SourceFile) (text : TextValue) (at : Pos) (toks : List Token) (s : State)
+      → Still w Same s (next_named file at toks s) (next_named (with_text file text) at toks (edited_state w.edit s))
+  next_named_goes file text at toks s =
+      still_cond w Same s (begins_header toks) (written_header file at s (header_at toks)) (computed_header file at toks s)
+      (written_header (with_text file text) at (edited_state w.edit s) (header_at toks)) (computed_header (with_text file text) at toks (edited_state w.edit s))
+      (written_goes file text at s (header_at toks)) (computed_goes file text at toks s)
+
   -- the items of an included file
   abbrev pub ProcessGoes : Process → Process → Type 0
   ProcessGoes process process2 = (file : SourceFile) (text : TextValue) → AreItemsAlike (items_in file) (text_items text) → (s : State) → IsEdited w.edit w.old s.table file text
@@ -339,30 +373,86 @@ module _ (w : World) where
   InnerGoes (Some process) (Some process2) = ProcessGoes process process2
   InnerGoes _ _ = ⊥
 
-  module _ (keeps : KeepsTexts w.edit w.old) (unit : UnitValue) (earlier : ℕ) where
-    entered_goes : (process process2 : Process) → ProcessGoes process process2 → (at : Pos) (file : SourceFile) (text : TextValue) → AreItemsAlike (items_in file) (text_items text)
-        → (s : State) → IsEdited w.edit w.old s.table file text → Goes w itself Put s (entered process at file s) (entered process2 at (with_text file text) (edited_state w.edit s))
-    entered_goes process process2 goes at file text items s edited =
-        goes_noted w itself Put s (Entered at file.number s.before ∷ []) (onward (process file s) (λ toks t. Ok (did toks (Exited at file.number t.before ∷ []) t)))
-        (onward (process2 (with_text file text) (edited_state w.edit s)) (λ toks t. Ok (did toks (Exited at file.number t.before ∷ []) t)))
-        (tt, tt) (tt, tt) (goes_then w itself Put itself Put s (process file s) (process2 (with_text file text) (edited_state w.edit s)) (λ toks. toks) (λ t. Exited at file.number t.before ∷ [])
-        (λ a. refl) (λ b x y v. v) (λ t. refl) (λ t b. ((tt, tt), (tt, tt))) (goes file text items s edited))
+  -- which files are read once is the same over the edited files
+  passes_goes : (process process2 : Process) → ProcessGoes process process2 → (at : Pos) → ProcessGoes (unless_once at process) (unless_once at process2)
+  passes_goes process process2 goes at file text items s edited =
+      let note : Note = ReadOnce true at file.number s.before in
+      goes_cond w itself Put s (is_read_once file.number s) (Ok (did [] (note ∷ []) s)) (process file s) (Ok (did [] (note ∷ []) (edited_state w.edit s))) (process2 (with_text file text) (edited_state w.edit s))
+      (silent_goes s (did [] (note ∷ []) s) (did [] (note ∷ []) (edited_state w.edit s))
+      (record { value = refl; notes = refl; state = refl; table = refl; before = refl; lines = λ h. h; quiet = λ b. ((tt, tt), (tt, tt)) }) refl)
+      (goes file text items s edited)
 
-    included_goes : (inner inner2 : Inner) → InnerGoes inner inner2 → (file : SourceFile) (text : TextValue) (at : Pos) (h : Header) (s : State)
-        → Goes w itself Put s (included (ctx w keeps unit earlier) inner file at h s) (included (ctx2 w keeps unit earlier) inner2 (with_text file text) at h (edited_state w.edit s))
-    included_goes None None goes file text at h s = tt
-    included_goes None (Some process2) goes file text at h s = tt
-    included_goes (Some process) None goes file text at h s = absurd goes
-    included_goes (Some process) (Some process2) goes file text at h s =
-        still_then w (FileGoes w) itself Put s (open_header (ctx w keeps unit earlier) file at h s) (open_header (ctx2 w keeps unit earlier) (with_text file text) at h (edited_state w.edit s))
-        (entered process at) (entered process2 at) (header_goes w keeps unit earlier file text at h s)
-        (λ f f2 t r. subst (λ (g : SourceFile). Goes w itself Put t (entered process at f t) (entered process2 at g (edited_state w.edit t))) (sym r.1)
-        (entered_goes process process2 goes at f r.0 r.2 t r.3))
+  -- where a search for the next file of a name begins is the same over the edited files
+  placed_goes : (s : State) (behind : Option ℕ) (m new : Outcome (List Token)) → Goes w itself Put (record s { behind = behind }) m new → Goes w itself Put s m new
+  placed_goes s behind (Err fault) new h = tt
+  placed_goes s behind (Ok d) new h = λ fits.
+      let k = h fits in
+      record {
+        fits = k.fits;
+        counted = k.counted;
+        grown = k.grown;
+        up = k.up;
+        down = k.down;
+        begins = k.begins;
+        too = λ within. let t = k.too within in record { value = t.value; notes = t.notes; is = t.is; goes = t.goes };
+      }
+
+  left_goes : (s : State) (behind : Option ℕ) (m new : Outcome (List Token)) → Goes w itself Put s m new → Goes w itself Put s (left_to behind m) (left_to behind new)
+  left_goes s behind (Err fault) new h = tt
+  left_goes s behind (Ok d) new h = λ fits.
+      let k = h fits in
+      record {
+        fits = k.fits;
+        counted = k.counted;
+        grown = k.grown;
+        up = k.up;
+        down = k.down;
+        begins = k.begins;
+        too = λ within. let t = k.too within in record { value = t.value; notes = t.notes; is = ap (left_to behind) t.is; goes = t.goes };
+      }
+
+  module _ (keeps : KeepsTexts w.edit w.old) (unit : UnitValue) (earlier : ℕ) where
+    entered_goes : (process process2 : Process) → ProcessGoes process process2 → (at : Pos) (behind : Option ℕ) (file : SourceFile) (text : TextValue) → AreItemsAlike (items_in file) (text_items text)
+        → (s : State) → IsEdited w.edit w.old s.table file text
+        → Goes w itself Put s (entered process at behind file s) (entered process2 at behind (with_text file text) (edited_state w.edit s))
+    entered_goes process process2 goes at behind file text items s edited =
+        let inside : State = record s { behind = behind } in
+        let exit : List Token → State → Outcome (List Token) = λ toks t. Ok (did toks (Exited at file.number t.before ∷ []) t) in
+        let old : Outcome (List Token) = process file inside in
+        let new : Outcome (List Token) = process2 (with_text file text) (edited_state w.edit inside) in
+        goes_noted w itself Put s (Entered at file.number s.before ∷ []) (left_to s.behind (onward old exit)) (left_to s.behind (onward new exit))
+        (tt, tt) (tt, tt) (left_goes s s.behind (onward old exit) (onward new exit)
+        (goes_then w itself Put itself Put s old new (λ toks. toks) (λ t. Exited at file.number t.before ∷ [])
+        (λ a. refl) (λ b x y v. v) (λ t. refl) (λ t b. ((tt, tt), (tt, tt))) (placed_goes s behind old new (goes file text items inside edited))))
+
+    included_goes : (inner inner2 : Inner) → InnerGoes inner inner2 → (file : SourceFile) (text : TextValue) (at : Pos) (next : Bool) (h : Header) (s : State)
+        → Goes w itself Put s (included (ctx w keeps unit earlier) inner file at next h s) (included (ctx2 w keeps unit earlier) inner2 (with_text file text) at next h (edited_state w.edit s))
+    included_goes None None goes file text at next h s = tt
+    included_goes None (Some process2) goes file text at next h s = tt
+    included_goes (Some process) None goes file text at next h s = absurd goes
+    included_goes (Some process) (Some process2) goes file text at next h s =
+        let place_of : SourceFile → Option ℕ = λ f. behind_of next h s.behind file.path unit f.path in
+        still_then w (FileGoes w) itself Put s (open_header (ctx w keeps unit earlier) file at next h s) (open_header (ctx2 w keeps unit earlier) (with_text file text) at next h (edited_state w.edit s))
+        (λ f t. entered (unless_once at process) at (place_of f) f t) (λ f t. entered (unless_once at process2) at (place_of f) f t) (header_goes w keeps unit earlier file text at next h s)
+        (λ f f2 t r. subst (λ (g : SourceFile). Goes w itself Put t (entered (unless_once at process) at (place_of f) f t) (entered (unless_once at process2) at (place_of g) g (edited_state w.edit t))) (sym r.1)
+        (entered_goes (unless_once at process) (unless_once at process2) (passes_goes process process2 goes at) at (place_of f) f r.0 r.2 t r.3))
+
+    -- a line whose header is found so
+    line_goes : (inner inner2 : Inner) → InnerGoes inner inner2 → (file : SourceFile) (text : TextValue) (at : Pos) (next : Bool) (s : State) (m new : Outcome Header) → Still w Same s m new
+        → Goes w itself Put s (onward m (included (ctx w keeps unit earlier) inner file at next)) (onward new (included (ctx2 w keeps unit earlier) inner2 (with_text file text) at next))
+    line_goes inner inner2 goes file text at next s m new same =
+        still_then w Same itself Put s m new (included (ctx w keeps unit earlier) inner file at next) (included (ctx2 w keeps unit earlier) inner2 (with_text file text) at next) same
+        (λ h h2 t r. subst (λ (x : Header). Goes w itself Put t (included (ctx w keeps unit earlier) inner file at next h t) (included (ctx2 w keeps unit earlier) inner2 (with_text file text) at next x (edited_state w.edit t))) (sym r)
+        (included_goes inner inner2 goes file text at next h t))
 
     pub include_goes : (inner inner2 : Inner) → InnerGoes inner inner2 → (file : SourceFile) (text : TextValue) (at : Pos) (toks : List Token) (s : State)
         → Goes w itself Put s (include_of (ctx w keeps unit earlier) inner file at toks s) (include_of (ctx2 w keeps unit earlier) inner2 (with_text file text) at toks (edited_state w.edit s))
     include_goes inner inner2 goes file text at toks s =
-        still_then w Same itself Put s (header_named file at (drop 2 toks) s) (header_named (with_text file text) at (drop 2 toks) (edited_state w.edit s))
-        (included (ctx w keeps unit earlier) inner file at) (included (ctx2 w keeps unit earlier) inner2 (with_text file text) at) (named_goes file text at (drop 2 toks) s)
-        (λ h h2 t r. subst (λ (x : Header). Goes w itself Put t (included (ctx w keeps unit earlier) inner file at h t) (included (ctx2 w keeps unit earlier) inner2 (with_text file text) at x (edited_state w.edit t))) (sym r)
-        (included_goes inner inner2 goes file text at h t))
+        line_goes inner inner2 goes file text at false s (header_named file at (drop 2 toks) s) (header_named (with_text file text) at (drop 2 toks) (edited_state w.edit s))
+        (named_goes file text at (drop 2 toks) s)
+
+    pub include_next_goes : (inner inner2 : Inner) → InnerGoes inner inner2 → (file : SourceFile) (text : TextValue) (at : Pos) (toks : List Token) (s : State)
+        → Goes w itself Put s (include_next_of (ctx w keeps unit earlier) inner file at toks s) (include_next_of (ctx2 w keeps unit earlier) inner2 (with_text file text) at toks (edited_state w.edit s))
+    include_next_goes inner inner2 goes file text at toks s =
+        line_goes inner inner2 goes file text at true s (next_named file at (drop 2 toks) s) (next_named (with_text file text) at (drop 2 toks) (edited_state w.edit s))
+        (next_named_goes file text at (drop 2 toks) s)

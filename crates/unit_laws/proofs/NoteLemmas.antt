@@ -1,5 +1,5 @@
 -- What is read of the notes of a unit.
-use Rattle.std.proofs.Common.{◌≡◌, ℕ, zero, suc, Bool, List, [], ◌∷◌, ◌++◌, Option, Some, None, refl, sym, subst}
+use Rattle.std.proofs.Common.{◌≡◌, ℕ, zero, suc, Bool, true, false, List, [], ◌∷◌, ◌++◌, Option, Some, None, refl, sym, subst}
 use Rattle.std.specs.Prelude.{slice_get}
 use Rattle.std.specs.List.{flat_map}
 use Rattle.std.proofs.lemmas.Option.{none-some, same_Some}
@@ -10,7 +10,7 @@ use Rattle.macro_body.specs.Notes as expansion
 use Rattle.unit_steps.specs.declared.events.Event.{Event}
 use Rattle.unit_steps.specs.declared.events.EventKind.{EventKind}
 use Rattle.unit_steps.specs.declared.events.EventKind.TheVariants as kind
-use Rattle.unit_steps.specs.Notes.{Note, Reaches, Happened, Defined, Undefined, Tested, Left, Linked, Answered, Named, Entered, Exited, links_of, links_then, pasted_of, pasted_then, stringized_of, stringized_then, header_of, answers_of, events_of, events_then, named_event, file_event, before_in}
+use Rattle.unit_steps.specs.Notes.{Note, Reaches, Happened, Defined, Undefined, Tested, Left, Linked, Answered, Named, Entered, Exited, ReadOnce, links_of, links_then, pasted_of, pasted_then, stringized_of, stringized_then, header_of, answers_of, events_of, events_then, named_event, file_event, before_in}
 use Rattle.unit_steps.specs.Texts.{UnitTextValue, unit_text}
 use Rattle.expansion_laws.specs.Telling.{AreAlike}
 use Rattle.expansion_laws.proofs.ListLemmas.{AllToks, toks_more}
@@ -94,6 +94,7 @@ module _ (P : Token → Type 0) where
   links_have (Named toks) h = tt
   links_have (Entered at file before) h = tt
   links_have (Exited at file before) h = tt
+  links_have (ReadOnce passed at file before) h = tt
 
   pasted_then_has : (n : expansion.Note) → HappenedSo P n → AllToks P (pasted_then n)
   pasted_then_has (expansion.Linked x y) h = tt
@@ -113,6 +114,7 @@ module _ (P : Token → Type 0) where
   pasted_has (Named toks) h = tt
   pasted_has (Entered at file before) h = tt
   pasted_has (Exited at file before) h = tt
+  pasted_has (ReadOnce passed at file before) h = tt
 
   stringized_then_has : (n : expansion.Note) → HappenedSo P n → AllToks P (stringized_then n)
   stringized_then_has (expansion.Linked x y) h = tt
@@ -132,6 +134,7 @@ module _ (P : Token → Type 0) where
   stringized_has (Named toks) h = tt
   stringized_has (Entered at file before) h = tt
   stringized_has (Exited at file before) h = tt
+  stringized_has (ReadOnce passed at file before) h = tt
 
   header_has : (n : Note) → NotedSo P n → AllToks P (header_of n)
   header_has (Named toks) h = h
@@ -145,6 +148,7 @@ module _ (P : Token → Type 0) where
   header_has (Answered t) h = tt
   header_has (Entered at file before) h = tt
   header_has (Exited at file before) h = tt
+  header_has (ReadOnce passed at file before) h = tt
 
   answers_have : (n : Note) → NotedSo P n → AllToks (λ t. P t × IsAnswer t) (answers_of n)
   answers_have (Answered t) h = ((h.0, h.1), tt)
@@ -158,6 +162,7 @@ module _ (P : Token → Type 0) where
   answers_have (Left name before) h = tt
   answers_have (Entered at file before) h = tt
   answers_have (Exited at file before) h = tt
+  answers_have (ReadOnce passed at file before) h = tt
 
   flat_answers : (notes : List Note) → AllIn (NotedSo P) notes → AllToks (λ t. P t × IsAnswer t) (flat_map answers_of notes)
   flat_answers [] so = tt
@@ -183,6 +188,8 @@ module _ (P : Token → Type 0) where
   events_have (Left name before) h = (named_has kind.Left name None before h, tt)
   events_have (Entered at file before) h = (file_has kind.Enter at file before h, tt)
   events_have (Exited at file before) h = (file_has kind.Leave at file before h, tt)
+  events_have (ReadOnce true at file before) h = (file_has kind.Passed at file before h, tt)
+  events_have (ReadOnce false at file before) h = (file_has kind.Once at file before h, tt)
   events_have (Linked x y) h = tt
   events_have (Reaches file item evaluated before) h = tt
   events_have (Answered t) h = tt

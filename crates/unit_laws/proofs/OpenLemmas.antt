@@ -211,10 +211,10 @@ module _ (w : World) (keeps : KeepsTexts w.edit w.old) (unit : UnitValue) (earli
   searched_goes file text at s u None = tt
   searched_goes file text at s u (Some path) = open_goes (place_in file at) (place_in (with_text file text) at) path (record s { table = u })
 
-  pub header_goes : (file : SourceFile) (text : TextValue) (at : Pos) (h : Header) (s : State)
-      → Still w (FileGoes w) s (open_header ctx file at h s) (open_header ctx2 (with_text file text) at h (edited_state w.edit s))
-  header_goes file text at h s =
-      let paths : List (List ℕ) = candidates_of h file.path unit in
+  pub header_goes : (file : SourceFile) (text : TextValue) (at : Pos) (next : Bool) (h : Header) (s : State)
+      → Still w (FileGoes w) s (open_header ctx file at next h s) (open_header ctx2 (with_text file text) at next h (edited_state w.edit s))
+  header_goes file text at next h s =
+      let paths : List (List ℕ) = candidates_of next h s.behind file.path unit in
       let d : Searched = search w.old paths s.table in
       subst (λ (x : Searched). Still w (FileGoes w) s (open_searched ctx file at s d d.path) (open_searched ctx2 (with_text file text) at (edited_state w.edit s) x x.path))
       (sym (search_edited w.edit w.old w.new w.news paths s.table))

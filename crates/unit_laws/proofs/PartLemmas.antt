@@ -11,6 +11,7 @@ use Rattle.cs_base.specs.Token.{Token}
 use Rattle.line_shape.specs.declared.items.Item.{Item}
 use Rattle.line_shape.specs.declared.items.ItemKind.{ItemKind}
 use Rattle.line_shape.specs.declared.items.ItemKind.TheVariants as kind
+use Rattle.line_shape.specs.declared.items.GnuLine.TheVariants as gnu
 use Rattle.line_shape.specs.declared.items.ItemKind.TheVariants.{Run, Bad}
 use Rattle.line_shape.specs.Signs.{is_name, is_hash, is_close}
 use Rattle.line_shape.specs.Directives.{directive_named, takes_name, is_run, nests_when_bad}
@@ -20,12 +21,12 @@ use Rattle.line_shape.specs.MacroLine.{MacroParts, macro, before_close, behind_c
 use Rattle.macro_expand.proofs.CallLemmas.{cond_has}
 use Rattle.macro_expand.proofs.TracedLemmas.{IsLine, lines-items_of}
 use Rattle.source_files.specs.Files.{SourceFile, Table}
-use Rattle.source_files.specs.HeaderNames.{is_header}
+use Rattle.source_files.specs.HeaderNames.{is_header, begins_header}
 use Rattle.source_files.specs.Sources.{source_at}
 use Rattle.include_tree.specs.Walk.{ItemText, item_text, item_texts, items_in}
 use Rattle.unit_steps.specs.Names.{spelled_in}
 use Rattle.expansion_laws.proofs.ListLemmas.{AllToks}
-use Rattle.unit_laws.specs.UnitItems.{expanded_name, taken}
+use Rattle.unit_laws.specs.UnitItems.{expanded_name, taken_next, taken}
 use Rattle.unit_laws.proofs.DoneLemmas.{AllIn, all_both, NameHas, PlaceHas, TakenHas}
 
 -- ---- parts of lists
@@ -117,6 +118,9 @@ expanded_has : (P : Token → Type 0) (toks : List Token) → AllToks P toks →
 expanded_has P [] h = tt
 expanded_has P (t ∷ toks) h = cond_has (AllToks P) (is_header t.kind) [] (t ∷ toks) tt h
 
+next_has : (P : Token → Type 0) (toks : List Token) → AllToks P toks → AllToks P (taken_next toks)
+next_has P toks h = cond_has (AllToks P) (begins_header toks) [] toks tt h
+
 taken_has : (P : Token → Type 0) (k : ItemKind) (evaluated : Bool) (toks : List Token) → AllToks P toks → AllToks P (taken k evaluated toks)
 taken_has P Run evaluated toks h = h
 taken_has P kind.Define evaluated toks h = toks_drop P 2 toks h
@@ -135,6 +139,12 @@ taken_has P kind.Error evaluated toks h = tt
 taken_has P kind.Pragma evaluated toks h = tt
 taken_has P kind.Empty evaluated toks h = tt
 taken_has P (Bad cause at nests) evaluated toks h = tt
+taken_has P (kind.Gnu gnu.IncludeNext) evaluated toks h = next_has P (drop 2 toks) (toks_drop P 2 toks h)
+taken_has P (kind.Gnu gnu.Message) evaluated toks h = tt
+taken_has P (kind.Gnu gnu.Elifdef) true toks h = toks_take P 1 (drop 2 toks) (toks_drop P 2 toks h)
+taken_has P (kind.Gnu gnu.Elifdef) false toks h = tt
+taken_has P (kind.Gnu gnu.Elifndef) true toks h = toks_take P 1 (drop 2 toks) (toks_drop P 2 toks h)
+taken_has P (kind.Gnu gnu.Elifndef) false toks h = tt
 
 -- what is taken from the items of kept files has it, where all their tokens do
 pub from_files : (P : Token → Type 0) (table : Table) → ((number : ℕ) (file : SourceFile) → source_at table number ≡ Some file → AllToks P file.text.toks)
@@ -211,7 +221,7 @@ function_has : (P : Token → Type 0) (list : List Token) (o : Option (List Toke
     → ((body : List Token) → o ≡ Some body → AllToks P body) → function_macro list o ≡ Some m → PartsHave P m
 function_has P list None m h behind e = absurd (none-some m e)
 function_has P list (Some body) m h behind e =
-    subst (PartsHave P) (cond_parts (is_parameter_list list) (macro true (params_in list) _ body) m e)
+    subst (PartsHave P) (cond_parts (is_parameter_list list) (macro true (params_in list) _ _ body) m e)
     (record { params = params_have P list h; body = behind body refl })
 
 pub macro_has : (P : Token → Type 0) (ts : List Token) (m : MacroParts) → AllToks P ts → macro_of ts ≡ Some m → PartsHave P m
@@ -220,7 +230,7 @@ macro_has P ts m h e = elim (cases_Bool (is_function_like ts)) [
   | inl function ↦
       function_has P (before_close (drop 1 ts)) (behind_close (drop 1 ts)) m (before_has P (drop 1 ts) (toks_drop P 1 ts h))
       (λ body is. behind_has P (drop 1 ts) body (toks_drop P 1 ts h) is) (rw function at e)
-  | inr object ↦ subst (PartsHave P) (same_Some (macro false [] false ts) m (rw object at e)) (record { params = tt; body = h })
+  | inr object ↦ subst (PartsHave P) (same_Some (macro false [] false false ts) m (rw object at e)) (record { params = tt; body = h })
 ]
 
 -- ---- names of one spelling

@@ -22,7 +22,7 @@ use Rattle.source_files.specs.Limits.{the_limits}
 use Rattle.unit_steps.specs.declared.events.Event.{Event}
 use Rattle.unit_steps.specs.declared.events.EventKind.TheVariants as kind
 use Rattle.unit_steps.specs.declared.events.Reached.{Reached}
-use Rattle.unit_steps.specs.Notes.{Note, Reaches, Happened, Defined, Undefined, Tested, Left, Linked, Answered, Named, Entered, Exited, named_event, events_of, reached, reached_of}
+use Rattle.unit_steps.specs.Notes.{Note, Reaches, Happened, Defined, Undefined, Tested, Left, Linked, Answered, Named, Entered, Exited, ReadOnce, named_event, events_of, reached, reached_of}
 use Rattle.unit_steps.specs.State.{State, Did, Outcome}
 use Rattle.unit_steps.specs.Texts.{UnitTextValue, reached_in, unit_text}
 use Rattle.include_tree.specs.Preprocessed.{Preprocessed, preprocessed_by, preprocessed}
@@ -67,6 +67,8 @@ of_note P events (Answered t) h q at = absurd (none-some q at.1)
 of_note P events (Named toks) h q at = absurd (none-some q at.1)
 of_note P events (Entered pos file before) h q at = absurd (none-some q at.1)
 of_note P events (Exited pos file before) h q at = absurd (none-some q at.1)
+of_note P events (ReadOnce true pos file before) h q at = absurd (none-some q at.1)
+of_note P events (ReadOnce false pos file before) h q at = absurd (none-some q at.1)
 
 -- it stands in the first or in the last of them
 of_either : {X : Type 0} (P : Type 0) (xs ys : List X) (x : X) → (IsOf xs x → P) → (IsOf ys x → P) → IsOf (xs ++ ys) x → P

@@ -11,7 +11,7 @@ use Rattle.source_files.specs.Faults.{Fault}
 use Rattle.source_files.specs.Files.{Source, Table}
 use Rattle.source_files.specs.Tables.{IsGrown, AreFound}
 use Rattle.source_files.proofs.TableLemmas.{grown_refl, grown_trans}
-use Rattle.unit_steps.specs.Notes.{Note, Reaches, Happened, Defined, Undefined, Tested, Left, Linked, Answered, Named, Entered, Exited}
+use Rattle.unit_steps.specs.Notes.{Note, Reaches, Happened, Defined, Undefined, Tested, Left, Linked, Answered, Named, Entered, Exited, ReadOnce}
 use Rattle.unit_steps.specs.State.{State, Did, did, Outcome, only, noted, onward}
 use Rattle.unit_laws.specs.Edited.{Edit, IsEditedSource, edited_state}
 use Rattle.unit_laws.specs.Walking.{IsOf, IsUpTo, AreUpTo, IsFrom, AreFrom, IsReachedAt, Stands}
@@ -45,6 +45,7 @@ up_note a b (Answered t) le h = tt
 up_note a b (Named toks) le h = tt
 up_note a b (Entered at file before) le h = tt
 up_note a b (Exited at file before) le h = tt
+up_note a b (ReadOnce passed at file before) le h = tt
 
 down_note : (a b : ℕ) (note : Note) → a ≤ b → IsFrom b note → IsFrom a note
 down_note a b (Reaches number k evaluated before) le h = omega (arith, le, h)
@@ -58,6 +59,7 @@ down_note a b (Answered t) le h = tt
 down_note a b (Named toks) le h = tt
 down_note a b (Entered at file before) le h = tt
 down_note a b (Exited at file before) le h = tt
+down_note a b (ReadOnce passed at file before) le h = tt
 
 pub up_more : (a b : ℕ) (ns : List Note) → a ≤ b → AreUpTo a ns → AreUpTo b ns
 up_more a b [] le h = tt

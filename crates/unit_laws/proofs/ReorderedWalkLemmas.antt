@@ -5,25 +5,26 @@ use Rattle.std.proofs.lemmas.Bool.{cases_Bool}
 use Rattle.cs_base.specs.declared.causes.Cause.TheVariants as cause
 use Rattle.cs_base.specs.declared.positions.Pos.{Pos}
 use Rattle.cs_base.specs.Token.{Token}
-use Rattle.cs_base.specs.Units.{UnitValue}
+use Rattle.cs_base.specs.Units.{UnitValue, is_gnu}
 use Rattle.line_shape.specs.Directives.{is_run}
 use Rattle.line_shape.specs.declared.items.ItemKind.{ItemKind}
 use Rattle.line_shape.specs.declared.items.ItemKind.TheVariants as kind
+use Rattle.line_shape.specs.declared.items.GnuLine.TheVariants as gnu
 use Rattle.lexer.specs.FileText.{TextValue}
 use Rattle.source_files.specs.Faults.{fault_at}
 use Rattle.source_files.specs.Files.{SourceFile}
 use Rattle.unit_steps.specs.Conditions.{holds}
-use Rattle.unit_steps.specs.Directives.{operand_in, opens_with, is_if}
+use Rattle.unit_steps.specs.Directives.{operand_in, opens_with, is_if, goes_with}
 use Rattle.unit_steps.specs.Notes.{Note, Reaches}
 use Rattle.unit_steps.specs.State.{State, Did, Outcome, only, noted, onward}
 use Rattle.include_tree.specs.Including.{Inner}
 use Rattle.include_tree.specs.Sections.{Group, Processed, Awaited, Over, Skipped, Section, section, are_processed, group_if, group_after, group_of_else, Turn, Opens, GoesOn, GoesLast, Ends, Stays, turn_of}
-use Rattle.include_tree.specs.Walk.{ItemText, items_in, processed, Stepped, stepped, reaching, reaching_alive, go_on, opens, goes_on, in_section, turned, item_step, file_end, walk, file_items}
+use Rattle.include_tree.specs.Walk.{ItemText, items_in, processed, Stepped, stepped, reaching, reaching_alive, go_on, opens, goes_on, in_section, turned, is_foreign, foreign_line, item_step, file_end, walk, file_items}
 use Rattle.unit_laws.specs.Edited.{edited_state}
 use Rattle.unit_laws.specs.Walking.{IsItemAlike, AreItemsAlike, text_items, KeepsTexts, with_text, IsEdited, IsReachedAt}
 use Rattle.unit_laws.proofs.ReorderedStepLemmas.{World, Still, Goes, Same, Within, itself, up_both, up_more, down_both, down_less, reached_first, reached_later, within_first, within_later, StandAt, stand_front, stand_behind, goes_only, goes_noted, still_then, goes_then, goes_cond, goes_test}
 use Rattle.unit_laws.proofs.OpenLemmas.{ctx, ctx2}
-use Rattle.unit_laws.proofs.LineLemmas.{holds_goes, asks_goes, define_goes, undef_goes, ProcessGoes, InnerGoes, include_goes}
+use Rattle.unit_laws.proofs.LineLemmas.{holds_goes, asks_goes, define_goes, undef_goes, ProcessGoes, InnerGoes, pragma_goes, include_goes, include_next_goes}
 use Rattle.source_files.specs.Tables.{IsGrown}
 use Rattle.source_files.proofs.TableLemmas.{grown_trans}
 use Rattle.unit_laws.proofs.EditedLemmas.{edited_grown}
@@ -115,6 +116,7 @@ run_is kind.Error h = absurd cc
 run_is kind.Pragma h = absurd cc
 run_is kind.Empty h = absurd cc
 run_is (kind.Bad c place nests) h = absurd cc
+run_is (kind.Gnu line) h = absurd cc
 
 -- these items stand among all of a file from one on
 abbrev ItemsAt : List ItemText → ℕ → List ItemText → Type 0
@@ -136,11 +138,15 @@ module _ (w : World) (runs : RunsToo w) (keeps : KeepsTexts w.edit w.old) (unit 
   processed_same : (inner inner2 : Inner) → InnerGoes w inner inner2 → (file : SourceFile) (text : TextValue) (k : ItemKind) (at : Pos) (toks : List Token) (s : State) → is_run k ≡ false
       → Goes w itself w.V s (processed (ctx w keeps unit earlier) inner file k at toks s) (processed (ctx2 w keeps unit earlier) inner2 (with_text file text) k at toks (edited_state w.edit s))
   processed_same inner inner2 goes file text kind.Run at toks s other = absurd cc
-  processed_same inner inner2 goes file text kind.Define at toks s other = define_goes w file (with_text file text) at toks s
+  processed_same inner inner2 goes file text kind.Define at toks s other = define_goes w (is_gnu unit.standard) file (with_text file text) at toks s
   processed_same inner inner2 goes file text kind.Undef at toks s other = undef_goes w file (with_text file text) at toks s
   processed_same inner inner2 goes file text kind.Include at toks s other = include_goes w keeps unit earlier inner inner2 goes file text at toks s
   processed_same inner inner2 goes file text kind.Error at toks s other = tt
   processed_same inner inner2 goes file text (kind.Bad c place nests) at toks s other = tt
+  processed_same inner inner2 goes file text (kind.Gnu gnu.IncludeNext) at toks s other = include_next_goes w keeps unit earlier inner inner2 goes file text at toks s
+  processed_same inner inner2 goes file text (kind.Gnu gnu.Message) at toks s other = nothing_goes s
+  processed_same inner inner2 goes file text (kind.Gnu gnu.Elifdef) at toks s other = nothing_goes s
+  processed_same inner inner2 goes file text (kind.Gnu gnu.Elifndef) at toks s other = nothing_goes s
   processed_same inner inner2 goes file text kind.If at toks s other = nothing_goes s
   processed_same inner inner2 goes file text kind.Ifdef at toks s other = nothing_goes s
   processed_same inner inner2 goes file text kind.Ifndef at toks s other = nothing_goes s
@@ -148,7 +154,7 @@ module _ (w : World) (runs : RunsToo w) (keeps : KeepsTexts w.edit w.old) (unit 
   processed_same inner inner2 goes file text kind.Else at toks s other = nothing_goes s
   processed_same inner inner2 goes file text kind.Endif at toks s other = nothing_goes s
   processed_same inner inner2 goes file text kind.Line at toks s other = nothing_goes s
-  processed_same inner inner2 goes file text kind.Pragma at toks s other = nothing_goes s
+  processed_same inner inner2 goes file text kind.Pragma at toks s other = pragma_goes w (is_gnu unit.standard) file text at toks s
   processed_same inner inner2 goes file text kind.Empty at toks s other = nothing_goes s
 
   opens_with_goes : (file : SourceFile) (text : TextValue) (k : ItemKind) (at : Pos) (toks : List Token) (s : State)
@@ -157,6 +163,7 @@ module _ (w : World) (runs : RunsToo w) (keeps : KeepsTexts w.edit w.old) (unit 
   opens_with_goes file text kind.Ifdef at toks s = asks_goes w file (with_text file text) at (λ b. b) s (operand_in toks)
   opens_with_goes file text kind.Ifndef at toks s = asks_goes w file (with_text file text) at not s (operand_in toks)
   opens_with_goes file text (kind.Bad c place nests) at toks s = tt
+  opens_with_goes file text (kind.Gnu line) at toks s = tt
   opens_with_goes file text kind.Run at toks s = tt
   opens_with_goes file text kind.Define at toks s = tt
   opens_with_goes file text kind.Undef at toks s = tt
@@ -168,6 +175,28 @@ module _ (w : World) (runs : RunsToo w) (keeps : KeepsTexts w.edit w.old) (unit 
   opens_with_goes file text kind.Error at toks s = tt
   opens_with_goes file text kind.Pragma at toks s = tt
   opens_with_goes file text kind.Empty at toks s = tt
+
+  goes_with_goes : (file : SourceFile) (text : TextValue) (k : ItemKind) (at : Pos) (toks : List Token) (s : State)
+      → Still w Same s (goes_with k file at toks s) (goes_with k (with_text file text) at toks (edited_state w.edit s))
+  goes_with_goes file text (kind.Gnu gnu.Elifdef) at toks s = asks_goes w file (with_text file text) at (λ b. b) s (operand_in toks)
+  goes_with_goes file text (kind.Gnu gnu.Elifndef) at toks s = asks_goes w file (with_text file text) at not s (operand_in toks)
+  goes_with_goes file text (kind.Gnu gnu.IncludeNext) at toks s = tt
+  goes_with_goes file text (kind.Gnu gnu.Message) at toks s = tt
+  goes_with_goes file text (kind.Bad c place nests) at toks s = holds_goes w file text at (drop 2 toks) s
+  goes_with_goes file text kind.Run at toks s = holds_goes w file text at (drop 2 toks) s
+  goes_with_goes file text kind.Define at toks s = holds_goes w file text at (drop 2 toks) s
+  goes_with_goes file text kind.Undef at toks s = holds_goes w file text at (drop 2 toks) s
+  goes_with_goes file text kind.If at toks s = holds_goes w file text at (drop 2 toks) s
+  goes_with_goes file text kind.Ifdef at toks s = holds_goes w file text at (drop 2 toks) s
+  goes_with_goes file text kind.Ifndef at toks s = holds_goes w file text at (drop 2 toks) s
+  goes_with_goes file text kind.Elif at toks s = holds_goes w file text at (drop 2 toks) s
+  goes_with_goes file text kind.Else at toks s = holds_goes w file text at (drop 2 toks) s
+  goes_with_goes file text kind.Endif at toks s = holds_goes w file text at (drop 2 toks) s
+  goes_with_goes file text kind.Include at toks s = holds_goes w file text at (drop 2 toks) s
+  goes_with_goes file text kind.Line at toks s = holds_goes w file text at (drop 2 toks) s
+  goes_with_goes file text kind.Error at toks s = holds_goes w file text at (drop 2 toks) s
+  goes_with_goes file text kind.Pragma at toks s = holds_goes w file text at (drop 2 toks) s
+  goes_with_goes file text kind.Empty at toks s = holds_goes w file text at (drop 2 toks) s
 
   -- ---- sections
 
@@ -205,9 +234,9 @@ module _ (w : World) (runs : RunsToo w) (keeps : KeepsTexts w.edit w.old) (unit 
       → Goes w step_toks (StepGoes w) s (goes_on file k i open_ sections s g) (goes_on (with_text file text) k i open_ sections (edited_state w.edit s) g)
   goes_on_goes file text k i open_ sections s Awaited =
       let next : Bool → List Section = λ b. section open_.opening (group_if b) false ∷ sections in
-      reaching_goes file text k true s (onward (holds file i.at (drop 2 i.toks) s) (λ b t. only (stepped [] (next b)) t))
-      (onward (holds (with_text file text) i.at (drop 2 i.toks) (edited_state w.edit s)) (λ b t. only (stepped [] (next b)) t))
-      (value_then s (holds file i.at (drop 2 i.toks) s) (holds (with_text file text) i.at (drop 2 i.toks) (edited_state w.edit s)) next (holds_goes w file text i.at (drop 2 i.toks) s))
+      reaching_goes file text k true s (onward (goes_with i.kind file i.at i.toks s) (λ b t. only (stepped [] (next b)) t))
+      (onward (goes_with i.kind (with_text file text) i.at i.toks (edited_state w.edit s)) (λ b t. only (stepped [] (next b)) t))
+      (value_then s (goes_with i.kind file i.at i.toks s) (goes_with i.kind (with_text file text) i.at i.toks (edited_state w.edit s)) next (goes_with_goes file text i.kind i.at i.toks s))
   goes_on_goes file text k i open_ sections s Skipped = only_goes s (section open_.opening Skipped false ∷ sections)
   goes_on_goes file text k i open_ sections s Processed =
       let next : List Section = section open_.opening (group_after Processed) false ∷ sections in
@@ -269,6 +298,22 @@ module _ (w : World) (runs : RunsToo w) (keeps : KeepsTexts w.edit w.old) (unit 
       stays_goes file text k sections s (processed (ctx w keeps unit earlier) inner file i.kind i.at i.toks s) (processed (ctx2 w keeps unit earlier) inner2 (with_text file text) i.kind i.at i.toks (edited_state w.edit s))
       (processed_same inner inner2 goes file text i.kind i.at i.toks s other)
 
+  -- a line that GNU C alone has, in a unit of another standard
+  foreign_goes : (file : SourceFile) (text : TextValue) (i : ItemText) (sections : List Section) (s : State)
+      → Goes w step_toks (StepGoes w) s (foreign_line file i sections s) (foreign_line (with_text file text) i sections (edited_state w.edit s))
+  foreign_goes file text i sections s =
+      goes_cond w step_toks (StepGoes w) s (are_processed sections) (Err (fault_at file i.at cause.BadDirective)) (only (stepped [] sections) s)
+      (Err (fault_at (with_text file text) i.at cause.BadDirective)) (only (stepped [] sections) (edited_state w.edit s)) tt (only_goes s sections)
+
+  -- an item that is no run
+  step_same : (inner inner2 : Inner) → InnerGoes w inner inner2 → (file : SourceFile) (text : TextValue) (k : ℕ) (i : ItemText) (sections : List Section) (s : State) → is_run i.kind ≡ false
+      → Goes w step_toks (StepGoes w) s (item_step (ctx w keeps unit earlier) inner file k i sections s) (item_step (ctx2 w keeps unit earlier) inner2 (with_text file text) k i sections (edited_state w.edit s))
+  step_same inner inner2 goes file text k i sections s other =
+      goes_cond w step_toks (StepGoes w) s (is_foreign unit.standard i.kind) (foreign_line file i sections s)
+      (turned (ctx w keeps unit earlier) inner file k i sections s (turn_of i.kind)) (foreign_line (with_text file text) i sections (edited_state w.edit s))
+      (turned (ctx2 w keeps unit earlier) inner2 (with_text file text) k i sections (edited_state w.edit s) (turn_of i.kind)) (foreign_goes file text i sections s)
+      (turned_same inner inner2 goes file text k i sections s other (turn_of i.kind))
+
   item_goes : (inner inner2 : Inner) → InnerGoes w inner inner2 → (file : SourceFile) (text : TextValue) (k : ℕ) (i j : ItemText) → IsItemAlike i j
       → slice_get (items_in file) k ≡ Some i → slice_get (text_items text) k ≡ Some j → (sections : List Section) (s : State) → IsEdited w.edit w.old s.table file text
       → Goes w step_toks (StepGoes w) s (item_step (ctx w keeps unit earlier) inner file k i sections s) (item_step (ctx2 w keeps unit earlier) inner2 (with_text file text) k j sections (edited_state w.edit s))
@@ -276,7 +321,7 @@ module _ (w : World) (runs : RunsToo w) (keeps : KeepsTexts w.edit w.old) (unit 
     | inl is ↦
         let k1 : i.kind ≡ kind.Run = run_is i.kind is in
         let k2 : j.kind ≡ kind.Run = alike.0 ∙ k1 in
-        subst (λ (x : ItemKind). Goes w step_toks (StepGoes w) s (step_of x) (turned (ctx2 w keeps unit earlier) inner2 (with_text file text) k j sections (edited_state w.edit s) (turn_of j.kind))) (sym k1)
+        subst (λ (x : ItemKind). Goes w step_toks (StepGoes w) s (step_of x) (item_step (ctx2 w keeps unit earlier) inner2 (with_text file text) k j sections (edited_state w.edit s))) (sym k1)
         (subst (λ (y : ItemKind). Goes w step_toks (StepGoes w) s (step_of kind.Run) (step2_of y)) (sym k2)
         (goes_cond w step_toks (StepGoes w) s (are_processed sections)
         (reaching file k false s (onward (processed (ctx w keeps unit earlier) inner file kind.Run i.at i.toks s) (λ toks t. only (stepped toks sections) t))) (only (stepped [] sections) s)
@@ -286,14 +331,14 @@ module _ (w : World) (runs : RunsToo w) (keeps : KeepsTexts w.edit w.old) (unit 
         (run_goes w runs unit earlier file text k i j at at2 k1 sections s edited) (only_goes s sections)))
     | inr other ↦
         subst (λ (x : ItemText). Goes w step_toks (StepGoes w) s (item_step (ctx w keeps unit earlier) inner file k i sections s) (item_step (ctx2 w keeps unit earlier) inner2 (with_text file text) k x sections (edited_state w.edit s)))
-        (sym (alike.1 other)) (turned_same inner inner2 goes file text k i sections s other (turn_of i.kind))
+        (sym (alike.1 other)) (step_same inner inner2 goes file text k i sections s other)
   ]
     where
       step_of : ItemKind → Outcome Stepped
-      step_of x = turned (ctx w keeps unit earlier) inner file k (record { kind = x; at = i.at; toks = i.toks }) sections s (turn_of x)
+      step_of x = item_step (ctx w keeps unit earlier) inner file k (record { kind = x; at = i.at; toks = i.toks }) sections s
 
       step2_of : ItemKind → Outcome Stepped
-      step2_of y = turned (ctx2 w keeps unit earlier) inner2 (with_text file text) k (record { kind = y; at = j.at; toks = j.toks }) sections (edited_state w.edit s) (turn_of y)
+      step2_of y = item_step (ctx2 w keeps unit earlier) inner2 (with_text file text) k (record { kind = y; at = j.at; toks = j.toks }) sections (edited_state w.edit s)
 
   -- ---- all items
 

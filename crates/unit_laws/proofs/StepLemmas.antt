@@ -1,20 +1,22 @@
 -- What holds of each step of a unit, and of one step behind another, holds of the unit.
-use Rattle.std.proofs.Common.{◌≡◌, ℕ, zero, suc, ◌+◌, ◌-◌, Bool, true, false, not, cond, List, [], ◌∷◌, ◌++◌, length, map, drop, Option, Some, None, is_some, Result, Ok, Err, refl, sym, subst, arith, nat_lt, inl, inr}
+use Rattle.std.proofs.Common.{◌≡◌, ℕ, zero, suc, ◌+◌, ◌-◌, Bool, true, false, not, ◌&&◌, cond, List, [], ◌∷◌, ◌++◌, length, map, drop, Option, Some, None, is_some, Result, Ok, Err, refl, sym, subst, arith, nat_lt, inl, inr}
 use Rattle.std.specs.Prelude.{slice_get}
 use Rattle.std.specs.List.{list_any}
 use Rattle.std.proofs.lemmas.Bool.{cases_Bool}
+use Rattle.std.proofs.lemmas.List.{append-nil}
 use Rattle.cs_base.specs.declared.causes.Cause.TheVariants as cause
 use Rattle.cs_base.specs.declared.positions.Place.{Place}
 use Rattle.cs_base.specs.declared.positions.Pos.{Pos}
 use Rattle.cs_base.specs.Token.{Token}
-use Rattle.cs_base.specs.Units.{UnitValue}
+use Rattle.cs_base.specs.Units.{UnitValue, is_gnu}
 use Rattle.lexer.specs.FileText.{file_text}
 use Rattle.line_shape.specs.declared.items.ItemKind.{ItemKind}
 use Rattle.line_shape.specs.declared.items.ItemKind.TheVariants as kind
+use Rattle.line_shape.specs.declared.items.GnuLine.TheVariants as gnu
 use Rattle.line_shape.specs.Directives.{is_define}
 use Rattle.line_shape.specs.Signs.{is_name}
 use Rattle.macro_body.specs.declared.definitions.Definition.{Definition}
-use Rattle.macro_body.specs.Defining.{defined_by}
+use Rattle.macro_body.specs.Defining.{defined_by, in_gnu}
 use Rattle.macro_body.specs.Notes as expansion
 use Rattle.macro_expand.specs.Expansion.{expansion}
 use Rattle.unit_steps.specs.Below.cond_eval.declared.faults.CondFault.{CondFault}
@@ -22,23 +24,23 @@ use Rattle.unit_steps.specs.Below.cond_eval.Evaluation.{condition}
 use Rattle.source_files.specs.Limits.{the_limits}
 use Rattle.source_files.specs.Faults.{Fault, fault_at, place_in, first_place}
 use Rattle.source_files.specs.Files.{Source, SourceFile, Table, Carried, defines_path, asked}
-use Rattle.unit_steps.specs.Notes.{Note, Reaches, Happened, Undefined, Left, Answered, Named, Entered, Exited}
+use Rattle.unit_steps.specs.Notes.{Note, Reaches, Happened, Undefined, Left, Answered, Named, Entered, Exited, ReadOnce}
 use Rattle.unit_steps.specs.Names.{spelled_in, name_links, with_name}
 use Rattle.unit_steps.specs.State.{Context, context, State, Did, did, Outcome, only, noted, onward}
-use Rattle.source_files.specs.Search.{Header, Searched, candidates_of, search}
+use Rattle.source_files.specs.Search.{Header, Searched, candidates_of, behind_of, search}
 use Rattle.source_files.specs.Opening.{Opening, opening}
 use Rattle.include_tree.specs.OpeningStep.{with_opened, open_file}
 use Rattle.unit_steps.specs.Expanding.{expanded_as, expanded_in, most_toks, past_limit, put_out, run_of}
 use Rattle.unit_steps.specs.Conditions.{Piece, Plain, Asks, is_defined, pieces_from, answer_for, is_macro, test_notes, answered, left_over, valued, judged, asked_pieces, holds}
-use Rattle.unit_steps.specs.Directives.{operand_in, define_notes, after_define, defined_as, after_undef, undefined_as, asks_name, opens_with, is_if}
-use Rattle.include_tree.specs.Including.{open_searched, open_header, Process, Inner, entered, included, include_of}
-use Rattle.unit_steps.specs.IncludeNames.{header_or, computed_header, header_named}
-use Rattle.source_files.specs.HeaderNames.{is_header, header_in, header_of_toks}
+use Rattle.unit_steps.specs.Directives.{operand_in, define_notes, after_define, defined_as, after_undef, undefined_as, asks_name, opens_with, is_if, goes_with, says_once, with_once, said_once, pragma_of, is_read_once, may_define}
+use Rattle.include_tree.specs.Including.{open_searched, open_header, Process, Inner, left_to, entered, unless_once, included, include_of, include_next_of}
+use Rattle.unit_steps.specs.IncludeNames.{header_or, computed_header, header_named, written_header, next_named}
+use Rattle.source_files.specs.HeaderNames.{is_header, header_in, header_of_toks, header_at, begins_header}
 use Rattle.source_files.specs.Tables.{IsGrown}
 use Rattle.include_tree.specs.Sections.{Group, Processed, Awaited, Over, Skipped, Section, section, are_processed, group_if, group_after, group_of_else, Turn, Opens, GoesOn, GoesLast, Ends, Stays, turn_of}
 use Rattle.source_files.specs.Sources.{source_at}
 use Rattle.include_tree.specs.Unit.{first_state, outer_file, main_file, both_files, unit_outcome}
-use Rattle.include_tree.specs.Walk.{ItemText, items_in, processed, Stepped, stepped, reaching, reaching_alive, go_on, opens, goes_on, in_section, turned, item_step, file_end, walk, file_items}
+use Rattle.include_tree.specs.Walk.{ItemText, items_in, processed, Stepped, stepped, reaching, reaching_alive, go_on, opens, goes_on, in_section, turned, is_foreign, foreign_line, item_step, file_end, walk, file_items}
 use Rattle.source_files.proofs.TableLemmas.{grown_refl, grown_trans, widens_asked}
 use Rattle.include_tree.proofs.SearchLemmas.{search_wide}
 use Rattle.source_files.proofs.SourcesLemmas.{opening-as}
@@ -61,6 +63,7 @@ IsQuiet (Answered t) = Unit {0}
 IsQuiet (Named toks) = Unit {0}
 IsQuiet (Entered at file before) = Unit {0}
 IsQuiet (Exited at file before) = Unit {0}
+IsQuiet (ReadOnce passed at file before) = Unit {0}
 IsQuiet _ = ⊥
 
 -- A relation of a state, of what happens then, and of the state behind it, that holds of each step of a unit over files
@@ -72,6 +75,10 @@ pub record StepRules (R : State → List Note → State → Type 0) (table : Tab
   -- paths are asked for, files are opened, and tokens are put out
   pub tables : (s : State) (t : Table) → R s [] (record s { table = t })
   pub counts : (s : State) (n : ℕ) → R s [] (record s { before = n })
+  -- a search for the next file of a name begins elsewhere
+  pub places : (s : State) (behind : Option ℕ) → R s [] (record s { behind = behind })
+  -- other files are read once
+  pub once : (s : State) (numbers : List ℕ) → R s [] (record s { once = numbers })
   -- tokens are expanded
   pub expands : (run : Bool) (path : List ℕ) (toks : List Token) (s : State) (e : expansion.Expanded) → expansion s.macros path toks s.work ≡ Ok e
       → R s (map (Happened run s.before) e.notes) (record s { work = e.left })
@@ -81,8 +88,8 @@ pub record StepRules (R : State → List Note → State → Type 0) (table : Tab
   pub undefined : (name : Token) (s : State) → R s (Undefined name s.before ∷ name_links name s) (after_undef name s)
   pub quiet : (note : Note) (s : State) → IsQuiet note → R s (note ∷ []) s
   -- an item is reached: a definition, which is made, or another one
-  pub defined : (file : SourceFile) (k : ℕ) (i : ItemText) (m : Definition) (s : State) → IsItem table file k i → i.kind ≡ kind.Define
-      → defined_by i.toks ≡ Some m → R s (Reaches file.number k false s.before ∷ define_notes m s) (after_define m s)
+  pub defined : (gnu : Bool) (file : SourceFile) (k : ℕ) (i : ItemText) (m : Definition) (s : State) → IsItem table file k i → i.kind ≡ kind.Define
+      → defined_by i.toks ≡ Some m → R s (Reaches file.number k false s.before ∷ define_notes (in_gnu gnu m) s) (after_define (in_gnu gnu m) s)
   pub reaches : (file : SourceFile) (k : ℕ) (i : ItemText) (evaluated : Bool) (s : State) → IsItem table file k i → is_define i.kind ≡ false
       → R s (Reaches file.number k evaluated s.before ∷ []) s
 
@@ -276,10 +283,11 @@ module _ (R : State → List Note → State → Type 0) (table : Table) (rules :
         grown_goes pre (FileIs table) s found.table (open_file ctx (place_in file at) path (record s { table = found.table })) grown
         (open_goes pre (place_in file at) path (record s { table = found.table }))
 
-    header_goes : (pre : Type 0) (file : SourceFile) (at : Pos) (h : Header) (s : State) → Goes pre (FileIs table) s (open_header ctx file at h s)
-    header_goes pre file at h s =
-        let found : Searched = search source (candidates_of h file.path unit) s.table in
-        searched_goes pre file at s found found.path (search_wide source (candidates_of h file.path unit) s.table).grown
+    header_goes : (pre : Type 0) (file : SourceFile) (at : Pos) (next : Bool) (h : Header) (s : State) → Goes pre (FileIs table) s (open_header ctx file at next h s)
+    header_goes pre file at next h s =
+        let paths = candidates_of next h s.behind file.path unit in
+        let found : Searched = search source paths s.table in
+        searched_goes pre file at s found found.path (search_wide source paths s.table).grown
 
     or_goes : (pre : Type 0) (file : SourceFile) (at : Pos) (toks : List Token) (s : State) (o : Option Header) → GoesAny pre s (header_or file at toks s o)
     or_goes pre file at toks s None = tt
@@ -296,6 +304,15 @@ module _ (R : State → List Note → State → Type 0) (table : Table) (rules :
         goes_cond pre (Any {A = Header}) s (is_header t.kind) (only (header_in t.text) s) (computed_header file at (t ∷ toks) s)
         (goes_only pre (Any {A = Header}) s (header_in t.text) (λ p. tt)) (computed_goes pre file at (t ∷ toks) s)
 
+    written_goes : (pre : Type 0) (file : SourceFile) (at : Pos) (s : State) (o : Option Header) → GoesAny pre s (written_header file at s o)
+    written_goes pre file at s None = tt
+    written_goes pre file at s (Some h) = goes_only pre (Any {A = Header}) s h (λ p. tt)
+
+    next_named_goes : (pre : Type 0) (file : SourceFile) (at : Pos) (toks : List Token) (s : State) → GoesAny pre s (next_named file at toks s)
+    next_named_goes pre file at toks s =
+        goes_cond pre (Any {A = Header}) s (begins_header toks) (written_header file at s (header_at toks)) (computed_header file at toks s)
+        (written_goes pre file at s (header_at toks)) (computed_goes pre file at toks s)
+
     -- what is known of the items of included files
     abbrev ProcessGoes : Process → Type 0
     ProcessGoes process = (file : SourceFile) (s : State) → GoesAny (FileIs table file) s (process file s)
@@ -304,32 +321,73 @@ module _ (R : State → List Note → State → Type 0) (table : Table) (rules :
     InnerGoes None = Unit {0}
     InnerGoes (Some process) = ProcessGoes process
 
-    entered_goes : (process : Process) → ProcessGoes process → (pre : Type 0) (at : Pos) (file : SourceFile) (s : State) → (pre → FileIs table file)
-        → GoesAny pre s (entered process at file s)
-    entered_goes process known pre at file s h =
-        goes_noted pre (Any {A = List Token}) s (Entered at file.number s.before ∷ []) (onward (process file s) (λ toks t. Ok (did toks (Exited at file.number t.before ∷ []) t)))
-        (λ p. rules.quiet (Entered at file.number s.before) s tt)
-        (then_goes pre s (process file s) (λ toks t. Ok (did toks (Exited at file.number t.before ∷ []) t))
-        (goes_more (FileIs table file) pre (Any {A = List Token}) (Any {A = List Token}) s (process file s) h (λ a p k. tt) (known file s))
-        (λ toks t. (grown_refl t.table, λ p reach. (tt, rules.quiet (Exited at file.number t.before) t tt))))
+    -- a state in which a search for the next file of a name begins elsewhere
+    placed_goes : {A : Type 0} (pre : Type 0) (V : A → Type 0) (s : State) (behind : Option ℕ) (m : Outcome A) → Goes pre V (record s { behind = behind }) m → Goes pre V s m
+    placed_goes pre V s behind (Ok d) h = (
+      h.0,
+      λ p reach. let r = h.1 p reach in (r.0, rules.both s (record s { behind = behind }) d.state [] d.notes (rules.places s behind) r.1),
+    )
+    placed_goes pre V s behind (Err found) h = tt
 
-    included_goes : (inner : Inner) → InnerGoes inner → (pre : Type 0) (file : SourceFile) (at : Pos) (h : Header) (s : State)
-        → GoesAny pre s (included ctx inner file at h s)
-    included_goes None known pre file at h s = tt
-    included_goes (Some process) known pre file at h s =
-        goes_onward pre (FileIs table) (Any {A = List Token}) s (open_header ctx file at h s) (entered process at) (header_goes pre file at h s)
-        (λ f t. entered_goes process known (pre × FileIs table f) at f t (λ p. p.1))
+    left_goes : {A : Type 0} (pre : Type 0) (V : A → Type 0) (s : State) (behind : Option ℕ) (m : Outcome A) → Goes pre V s m → Goes pre V s (left_to behind m)
+    left_goes pre V s behind (Ok d) h = (
+      h.0,
+      λ p reach.
+          let r = h.1 p reach in
+          let u : State = record d.state { behind = behind } in
+          (r.0, subst (λ (notes : List Note). R s notes u) (append-nil d.notes) (rules.both s d.state u d.notes [] r.1 (rules.places d.state behind))),
+    )
+    left_goes pre V s behind (Err found) h = tt
+
+    entered_goes : (process : Process) → ProcessGoes process → (pre : Type 0) (at : Pos) (behind : Option ℕ) (file : SourceFile) (s : State) → (pre → FileIs table file)
+        → GoesAny pre s (entered process at behind file s)
+    entered_goes process known pre at behind file s h =
+        let inside : State = record s { behind = behind } in
+        let exit : List Token → State → Outcome (List Token) = λ toks t. Ok (did toks (Exited at file.number t.before ∷ []) t) in
+        goes_noted pre (Any {A = List Token}) s (Entered at file.number s.before ∷ []) (left_to s.behind (onward (process file inside) exit))
+        (λ p. rules.quiet (Entered at file.number s.before) s tt)
+        (left_goes pre (Any {A = List Token}) s s.behind (onward (process file inside) exit)
+        (then_goes pre s (process file inside) exit
+        (placed_goes pre (Any {A = List Token}) s behind (process file inside)
+        (goes_more (FileIs table file) pre (Any {A = List Token}) (Any {A = List Token}) inside (process file inside) h (λ a p k. tt) (known file inside)))
+        (λ toks t. (grown_refl t.table, λ p reach. (tt, rules.quiet (Exited at file.number t.before) t tt)))))
+
+    passes_goes : (process : Process) → ProcessGoes process → (at : Pos) → ProcessGoes (unless_once at process)
+    passes_goes process known at file s =
+        goes_cond (FileIs table file) (Any {A = List Token}) s (is_read_once file.number s) (Ok (did [] (ReadOnce true at file.number s.before ∷ []) s)) (process file s)
+        (grown_refl s.table, λ p reach. (tt, rules.quiet (ReadOnce true at file.number s.before) s tt)) (known file s)
+
+    included_goes : (inner : Inner) → InnerGoes inner → (pre : Type 0) (file : SourceFile) (at : Pos) (next : Bool) (h : Header) (s : State)
+        → GoesAny pre s (included ctx inner file at next h s)
+    included_goes None known pre file at next h s = tt
+    included_goes (Some process) known pre file at next h s =
+        let place_of : SourceFile → Option ℕ = λ f. behind_of next h s.behind file.path unit f.path in
+        goes_onward pre (FileIs table) (Any {A = List Token}) s (open_header ctx file at next h s) (λ f t. entered (unless_once at process) at (place_of f) f t) (header_goes pre file at next h s)
+        (λ f t. entered_goes (unless_once at process) (passes_goes process known at) (pre × FileIs table f) at (place_of f) f t (λ p. p.1))
 
     include_goes : (inner : Inner) → InnerGoes inner → (pre : Type 0) (file : SourceFile) (at : Pos) (toks : List Token) (s : State)
         → GoesAny pre s (include_of ctx inner file at toks s)
     include_goes inner known pre file at toks s =
-        then_goes pre s (header_named file at (drop 2 toks) s) (included ctx inner file at) (named_goes pre file at (drop 2 toks) s)
-        (λ h t. included_goes inner known pre file at h t)
+        then_goes pre s (header_named file at (drop 2 toks) s) (included ctx inner file at false) (named_goes pre file at (drop 2 toks) s)
+        (λ h t. included_goes inner known pre file at false h t)
+
+    include_next_goes : (inner : Inner) → InnerGoes inner → (pre : Type 0) (file : SourceFile) (at : Pos) (toks : List Token) (s : State)
+        → GoesAny pre s (include_next_of ctx inner file at toks s)
+    include_next_goes inner known pre file at toks s =
+        then_goes pre s (next_named file at (drop 2 toks) s) (included ctx inner file at true) (next_named_goes pre file at (drop 2 toks) s)
+        (λ h t. included_goes inner known pre file at true h t)
 
     -- ---- items
 
     nothing_goes : (pre : Type 0) (s : State) → GoesAny {A = List Token} pre s (only [] s)
     nothing_goes pre s = goes_only pre (Any {A = List Token}) s [] (λ p. tt)
+
+    pragma_goes : (pre : Type 0) (gnu_ : Bool) (file : SourceFile) (at : Pos) (toks : List Token) (s : State) → GoesAny pre s (pragma_of gnu_ file at toks s)
+    pragma_goes pre gnu_ file at toks s =
+        let note : Note = ReadOnce false at file.number s.before in
+        goes_cond pre (Any {A = List Token}) s (gnu_ && says_once toks) (said_once file at s) (only [] s)
+        (grown_refl s.table, λ p reach. (tt, rules.both s s (with_once file.number s) (note ∷ []) [] (rules.quiet note s tt) (rules.once s (s.once ++ file.number ∷ []))))
+        (nothing_goes pre s)
 
     processed_goes : (inner : Inner) → InnerGoes inner → (pre : Type 0) (file : SourceFile) (k : ItemKind) (at : Pos) (toks : List Token) (s : State)
         → is_define k ≡ false → GoesAny pre s (processed ctx inner file k at toks s)
@@ -339,6 +397,10 @@ module _ (R : State → List Note → State → Type 0) (table : Table) (rules :
     processed_goes inner known pre file kind.Include at toks s is = include_goes inner known pre file at toks s
     processed_goes inner known pre file kind.Error at toks s is = tt
     processed_goes inner known pre file (kind.Bad c place nests) at toks s is = tt
+    processed_goes inner known pre file (kind.Gnu gnu.IncludeNext) at toks s is = include_next_goes inner known pre file at toks s
+    processed_goes inner known pre file (kind.Gnu gnu.Message) at toks s is = nothing_goes pre s
+    processed_goes inner known pre file (kind.Gnu gnu.Elifdef) at toks s is = nothing_goes pre s
+    processed_goes inner known pre file (kind.Gnu gnu.Elifndef) at toks s is = nothing_goes pre s
     processed_goes inner known pre file kind.If at toks s is = nothing_goes pre s
     processed_goes inner known pre file kind.Ifdef at toks s is = nothing_goes pre s
     processed_goes inner known pre file kind.Ifndef at toks s is = nothing_goes pre s
@@ -346,7 +408,7 @@ module _ (R : State → List Note → State → Type 0) (table : Table) (rules :
     processed_goes inner known pre file kind.Else at toks s is = nothing_goes pre s
     processed_goes inner known pre file kind.Endif at toks s is = nothing_goes pre s
     processed_goes inner known pre file kind.Line at toks s is = nothing_goes pre s
-    processed_goes inner known pre file kind.Pragma at toks s is = nothing_goes pre s
+    processed_goes inner known pre file kind.Pragma at toks s is = pragma_goes pre (is_gnu unit.standard) file at toks s
     processed_goes inner known pre file kind.Empty at toks s is = nothing_goes pre s
 
     opens_with_goes : (pre : Type 0) (k : ItemKind) (file : SourceFile) (at : Pos) (toks : List Token) (s : State) → GoesAny pre s (opens_with k file at toks s)
@@ -354,6 +416,7 @@ module _ (R : State → List Note → State → Type 0) (table : Table) (rules :
     opens_with_goes pre kind.Ifdef file at toks s = asks_goes pre file at (λ b. b) s (operand_in toks)
     opens_with_goes pre kind.Ifndef file at toks s = asks_goes pre file at not s (operand_in toks)
     opens_with_goes pre (kind.Bad c place nests) file at toks s = tt
+    opens_with_goes pre (kind.Gnu line) file at toks s = tt
     opens_with_goes pre kind.Run file at toks s = tt
     opens_with_goes pre kind.Define file at toks s = tt
     opens_with_goes pre kind.Undef file at toks s = tt
@@ -366,6 +429,27 @@ module _ (R : State → List Note → State → Type 0) (table : Table) (rules :
     opens_with_goes pre kind.Pragma file at toks s = tt
     opens_with_goes pre kind.Empty file at toks s = tt
 
+    goes_with_goes : (pre : Type 0) (k : ItemKind) (file : SourceFile) (at : Pos) (toks : List Token) (s : State) → GoesAny pre s (goes_with k file at toks s)
+    goes_with_goes pre (kind.Gnu gnu.Elifdef) file at toks s = asks_goes pre file at (λ b. b) s (operand_in toks)
+    goes_with_goes pre (kind.Gnu gnu.Elifndef) file at toks s = asks_goes pre file at not s (operand_in toks)
+    goes_with_goes pre (kind.Gnu gnu.IncludeNext) file at toks s = tt
+    goes_with_goes pre (kind.Gnu gnu.Message) file at toks s = tt
+    goes_with_goes pre (kind.Bad c place nests) file at toks s = holds_goes pre file at (drop 2 toks) s
+    goes_with_goes pre kind.Run file at toks s = holds_goes pre file at (drop 2 toks) s
+    goes_with_goes pre kind.Define file at toks s = holds_goes pre file at (drop 2 toks) s
+    goes_with_goes pre kind.Undef file at toks s = holds_goes pre file at (drop 2 toks) s
+    goes_with_goes pre kind.If file at toks s = holds_goes pre file at (drop 2 toks) s
+    goes_with_goes pre kind.Ifdef file at toks s = holds_goes pre file at (drop 2 toks) s
+    goes_with_goes pre kind.Ifndef file at toks s = holds_goes pre file at (drop 2 toks) s
+    goes_with_goes pre kind.Elif file at toks s = holds_goes pre file at (drop 2 toks) s
+    goes_with_goes pre kind.Else file at toks s = holds_goes pre file at (drop 2 toks) s
+    goes_with_goes pre kind.Endif file at toks s = holds_goes pre file at (drop 2 toks) s
+    goes_with_goes pre kind.Include file at toks s = holds_goes pre file at (drop 2 toks) s
+    goes_with_goes pre kind.Line file at toks s = holds_goes pre file at (drop 2 toks) s
+    goes_with_goes pre kind.Error file at toks s = holds_goes pre file at (drop 2 toks) s
+    goes_with_goes pre kind.Pragma file at toks s = holds_goes pre file at (drop 2 toks) s
+    goes_with_goes pre kind.Empty file at toks s = holds_goes pre file at (drop 2 toks) s
+
     -- only lines of these kinds turn so
     turns_no_define : (k : ItemKind) (turn : Turn) → turn_of k ≡ turn → (turn ≡ Stays → ⊥) → is_define k ≡ false
     turns_no_define kind.Define turn is other = absurd (other (sym is))
@@ -373,6 +457,7 @@ module _ (R : State → List Note → State → Type 0) (table : Table) (rules :
     turns_no_define kind.Ifdef turn is other = refl
     turns_no_define kind.Ifndef turn is other = refl
     turns_no_define (kind.Bad c place nests) turn is other = refl
+    turns_no_define (kind.Gnu line) turn is other = refl
     turns_no_define kind.Run turn is other = refl
     turns_no_define kind.Undef turn is other = refl
     turns_no_define kind.Elif turn is other = refl
@@ -410,9 +495,9 @@ module _ (R : State → List Note → State → Type 0) (table : Table) (rules :
     goes_on_goes : (file : SourceFile) (k : ℕ) (i : ItemText) (open_ : Section) (sections : List Section) (s : State) (g : Group) → is_define i.kind ≡ false
         → GoesAny (IsItem table file k i) s (goes_on file k i open_ sections s g)
     goes_on_goes file k i open_ sections s Awaited other =
-        reaching_goes file k i true s (onward (holds file i.at (drop 2 i.toks) s) (λ b t. only (go_on open_ (group_if b) false sections) t)) other
-        (then_only (IsItem table file k i) s (holds file i.at (drop 2 i.toks) s) (λ b. go_on open_ (group_if b) false sections)
-        (holds_goes (IsItem table file k i) file i.at (drop 2 i.toks) s))
+        reaching_goes file k i true s (onward (goes_with i.kind file i.at i.toks s) (λ b t. only (go_on open_ (group_if b) false sections) t)) other
+        (then_only (IsItem table file k i) s (goes_with i.kind file i.at i.toks s) (λ b. go_on open_ (group_if b) false sections)
+        (goes_with_goes (IsItem table file k i) i.kind file i.at i.toks s))
     goes_on_goes file k i open_ sections s Skipped other = only_goes (IsItem table file k i) s (go_on open_ Skipped false sections)
     goes_on_goes file k i open_ sections s Processed other =
         reaching_goes file k i false s (only (go_on open_ (group_after Processed) false sections) s) other (only_goes (IsItem table file k i) s (go_on open_ (group_after Processed) false sections))
@@ -436,16 +521,22 @@ module _ (R : State → List Note → State → Type 0) (table : Table) (rules :
     in_section_goes pre s file i Stays (o ∷ around) next h = goes_test pre (Any {A = Stepped}) s o.after_else (fault_at file i.at cause.UnbalancedIf) (next o around) (h o around)
 
     -- a definition that is reached is made
-    defined_goes : (file : SourceFile) (k : ℕ) (i : ItemText) (sections : List Section) (s : State) (o : Option Definition) → i.kind ≡ kind.Define → defined_by i.toks ≡ o
-        → GoesAny (IsItem table file k i) s (reaching file k false s (onward (defined_as file i.at s o) (λ toks t. only (stepped toks sections) t)))
-    defined_goes file k i sections s None is by = tt
-    defined_goes file k i sections s (Some m) is by = (
-      name_grown m.name s,
-      λ item reach. (
-        tt,
-        rules.both s (after_define m s) (after_define m s) (Reaches file.number k false s.before ∷ define_notes m s) [] (rules.defined file k i m s item is by) (rules.none (after_define m s)),
-      ),
-    )
+    defined_goes : (gnu : Bool) (file : SourceFile) (k : ℕ) (i : ItemText) (sections : List Section) (s : State) (o : Option Definition) → i.kind ≡ kind.Define → defined_by i.toks ≡ o
+        → GoesAny (IsItem table file k i) s (reaching file k false s (onward (defined_as gnu file i.at s o) (λ toks t. only (stepped toks sections) t)))
+    defined_goes gnu file k i sections s None is by = tt
+    defined_goes gnu file k i sections s (Some m) is by = either (may_define gnu m)
+      where
+        either : (b : Bool) → GoesAny (IsItem table file k i) s (reaching file k false s (onward
+            (cond b (Ok (did [] (define_notes (in_gnu gnu m) s) (after_define (in_gnu gnu m) s))) (Err (fault_at file i.at cause.BadDirective))) (λ toks t. only (stepped toks sections) t)))
+        either false = tt
+        either true = (
+          name_grown m.name s,
+          λ item reach. (
+            tt,
+            rules.both s (after_define (in_gnu gnu m) s) (after_define (in_gnu gnu m) s) (Reaches file.number k false s.before ∷ define_notes (in_gnu gnu m) s) []
+                (rules.defined gnu file k i m s item is by) (rules.none (after_define (in_gnu gnu m) s)),
+          ),
+        )
 
     define_kind : (k : ItemKind) → is_define k ≡ true → k ≡ kind.Define
     define_kind kind.Define is = refl
@@ -457,7 +548,7 @@ module _ (R : State → List Note → State → Type 0) (table : Table) (rules :
       | inl define ↦
           let is = define_kind i.kind define in
           let Q : ItemKind → Type 0 = λ kd. GoesAny (IsItem table file k i) s (reaching file k false s (onward (processed ctx inner file kd i.at i.toks s) (λ toks t. only (stepped toks sections) t))) in
-          subst Q (sym is) (defined_goes file k i sections s (defined_by i.toks) is refl)
+          subst Q (sym is) (defined_goes (is_gnu ctx.unit.standard) file k i sections s (defined_by i.toks) is refl)
       | inr other ↦
           reaching_goes file k i false s (onward (processed ctx inner file i.kind i.at i.toks s) (λ toks t. only (stepped toks sections) t)) other
           (then_only (IsItem table file k i) s (processed ctx inner file i.kind i.at i.toks s) (λ toks. stepped toks sections)
@@ -480,6 +571,19 @@ module _ (R : State → List Note → State → Type 0) (table : Table) (rules :
         goes_cond (IsItem table file k i) (Any {A = Stepped}) s (are_processed sections)
         (reaching file k false s (onward (processed ctx inner file i.kind i.at i.toks s) (λ toks t. only (stepped toks sections) t)))
         (only (stepped [] sections) s) (stays_goes inner known file k i sections s) (only_goes (IsItem table file k i) s (stepped [] sections))
+
+    -- a line that GNU C alone has, in a unit of another standard
+    foreign_goes : (pre : Type 0) (file : SourceFile) (i : ItemText) (sections : List Section) (s : State) → GoesAny pre s (foreign_line file i sections s)
+    foreign_goes pre file i sections s =
+        goes_cond pre (Any {A = Stepped}) s (are_processed sections) (Err (fault_at file i.at cause.BadDirective)) (only (stepped [] sections) s) tt
+        (only_goes pre s (stepped [] sections))
+
+    step_goes : (inner : Inner) → InnerGoes inner → (file : SourceFile) (k : ℕ) (i : ItemText) (sections : List Section) (s : State)
+        → GoesAny (IsItem table file k i) s (item_step ctx inner file k i sections s)
+    step_goes inner known file k i sections s =
+        goes_cond (IsItem table file k i) (Any {A = Stepped}) s (is_foreign unit.standard i.kind) (foreign_line file i sections s)
+        (turned ctx inner file k i sections s (turn_of i.kind)) (foreign_goes (IsItem table file k i) file i sections s)
+        (turned_goes inner known file k i sections s (turn_of i.kind) refl)
 
     -- ---- all items
 
@@ -516,7 +620,7 @@ module _ (R : State → List Note → State → Type 0) (table : Table) (rules :
     walk_goes inner known file k (i ∷ items) sections s =
         then_goes (AreItems file k (i ∷ items)) s (item_step ctx inner file k i sections s) (λ d t. onward (walk ctx inner file (k + 1) items d.sections t) (λ toks u. only (d.toks ++ toks) u))
         (goes_more (IsItem table file k i) (AreItems file k (i ∷ items)) (Any {A = Stepped}) (Any {A = Stepped}) s (item_step ctx inner file k i sections s)
-        (λ p. first_item file k i items p) (λ a p h. tt) (turned_goes inner known file k i sections s (turn_of i.kind) refl))
+        (λ p. first_item file k i items p) (λ a p h. tt) (step_goes inner known file k i sections s))
         (λ d t. both_goes (AreItems file k (i ∷ items)) d.toks t (walk ctx inner file (k + 1) items d.sections t)
         (goes_more (AreItems file (k + 1) items) (AreItems file k (i ∷ items)) (Any {A = List Token}) (Any {A = List Token}) t (walk ctx inner file (k + 1) items d.sections t)
         (λ p. later_items file k i items p) (λ a p h. tt) (walk_goes inner known file (k + 1) items d.sections t)))

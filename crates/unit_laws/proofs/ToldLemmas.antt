@@ -15,7 +15,7 @@ use Rattle.lexer.specs.FileText.{file_text}
 use Rattle.line_shape.specs.MacroLine.{MacroParts, macro_of}
 use Rattle.line_shape.specs.Signs.{is_name}
 use Rattle.macro_body.specs.declared.definitions.Definition.{Definition}
-use Rattle.macro_body.specs.Defining.{form_of, definition_of, defined_by, line_macro, file_macro, first_macros}
+use Rattle.macro_body.specs.Defining.{form_of, definition_of, defined_by, line_macro, file_macro, first_macros, in_gnu}
 use Rattle.macro_body.specs.Live.{no_macro, with_macro}
 use Rattle.macro_body.specs.Macro.{Table as Macros}
 use Rattle.macro_body.specs.Notes as expansion
@@ -25,7 +25,7 @@ use Rattle.unit_steps.specs.declared.events.EventKind.{EventKind}
 use Rattle.unit_steps.specs.declared.events.EventKind.TheVariants as kind
 use Rattle.source_files.specs.Files.{Source, Table, Carried}
 use Rattle.unit_steps.specs.Names.{spelled_in, linked_with, name_links, with_name, parameter_named, definition_links}
-use Rattle.unit_steps.specs.Notes.{Note, Reaches, Happened, Defined, Undefined, Tested, Left, Linked, Answered, Named, Entered, Exited, link, links_then, links_of, named_event, file_event, before_in, events_then, events_of}
+use Rattle.unit_steps.specs.Notes.{Note, Reaches, Happened, Defined, Undefined, Tested, Left, Linked, Answered, Named, Entered, Exited, ReadOnce, link, links_then, links_of, named_event, file_event, before_in, events_then, events_of}
 use Rattle.unit_steps.specs.State.{State, Did}
 use Rattle.unit_steps.specs.Directives.{define_notes, after_define, after_undef}
 use Rattle.unit_steps.specs.Conditions.{test_notes}
@@ -105,6 +105,7 @@ module _ (mapped : Token → List ℕ) where
   told_later names more (Named toks) stay h = tt
   told_later names more (Entered at file before) stay h = tt
   told_later names more (Exited at file before) stay h = tt
+  told_later names more (ReadOnce passed at file before) stay h = tt
 
   all_later : (names more : List Token) (notes : List Note) → Stay names more → AllIn (ToldIs names) notes → AllIn (ToldIs more) notes
   all_later names more [] stay h = tt
@@ -311,6 +312,7 @@ module _ (mapped : Token → List ℕ) where
   goes_quiet (Named toks) s quiet = record { stay = λ text first e. e; told = λ agree macros. (macros, (tt, tt)) }
   goes_quiet (Entered at file before) s quiet = record { stay = λ text first e. e; told = λ agree macros. (macros, (tt, tt)) }
   goes_quiet (Exited at file before) s quiet = record { stay = λ text first e. e; told = λ agree macros. (macros, (tt, tt)) }
+  goes_quiet (ReadOnce passed at file before) s quiet = record { stay = λ text first e. e; told = λ agree macros. (macros, (tt, tt)) }
   goes_quiet (Reaches file item evaluated before) s quiet = absurd quiet
   goes_quiet (Happened run before note) s quiet = absurd quiet
   goes_quiet (Defined m before) s quiet = absurd quiet
@@ -338,12 +340,14 @@ module _ (mapped : Token → List ℕ) where
     both = goes_both;
     tables = λ s t. goes_silent s (record s { table = t }) refl refl;
     counts = λ s n. goes_silent s (record s { before = n }) refl refl;
+    places = λ s behind. goes_silent s (record s { behind = behind }) refl refl;
+    once = λ s numbers. goes_silent s (record s { once = numbers }) refl refl;
     expands = goes_expands;
     tested = goes_tested;
     left = goes_left;
     undefined = goes_undefined;
     quiet = goes_quiet;
-    defined = λ file k i m s item is by. goes_defined file.number k false m s (defined_links i.toks m by);
+    defined = λ gnu file k i m s item is by. goes_defined file.number k false (in_gnu gnu m) s (defined_links i.toks m by);
     reaches = λ file k i evaluated s item other. goes_reaches file.number k evaluated s;
   }
 
@@ -384,6 +388,7 @@ module _ (mapped : Token → List ℕ) where
   note_agrees (Named toks) h = tt
   note_agrees (Entered at file before) h = tt
   note_agrees (Exited at file before) h = tt
+  note_agrees (ReadOnce passed at file before) h = tt
 
   abbrev EventIs : List Token → Event → Type 0
   EventIs names e = (t : Token) → e.name ≡ Some t → NameIs names t
@@ -408,6 +413,8 @@ module _ (mapped : Token → List ℕ) where
   note_events names (Left name before) h = (named_is names kind.Left name None before h, tt)
   note_events names (Entered at file before) h = (file_names names kind.Enter at file before, tt)
   note_events names (Exited at file before) h = (file_names names kind.Leave at file before, tt)
+  note_events names (ReadOnce true at file before) h = (file_names names kind.Passed at file before, tt)
+  note_events names (ReadOnce false at file before) h = (file_names names kind.Once at file before, tt)
   note_events names (Reaches file item evaluated before) h = tt
   note_events names (Linked x y) h = tt
   note_events names (Answered t) h = tt

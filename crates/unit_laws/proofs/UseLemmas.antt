@@ -1,5 +1,5 @@
 -- Definitions that a unit reached: its links of their uses of parameters.
-use Rattle.std.proofs.Common.{◌≡◌, ℕ, zero, suc, ◌+◌, Bool, false, List, [], ◌∷◌, ◌++◌, length, map, Option, Some, None, refl, sym, subst, ap, ◌∙◌}
+use Rattle.std.proofs.Common.{◌≡◌, ℕ, zero, suc, ◌+◌, Bool, true, false, List, [], ◌∷◌, ◌++◌, length, map, Option, Some, None, refl, sym, subst, ap, ◌∙◌}
 use Rattle.std.specs.Prelude.{slice_get}
 use Rattle.std.specs.List.{flat_map}
 use Rattle.std.proofs.lemmas.Option.{none-some, same_Some}
@@ -9,14 +9,14 @@ use Rattle.line_shape.specs.declared.items.ItemKind.{ItemKind}
 use Rattle.line_shape.specs.declared.items.ItemKind.TheVariants as kind
 use Rattle.line_shape.specs.Directives.{is_define}
 use Rattle.macro_body.specs.declared.definitions.Definition.{Definition}
-use Rattle.macro_body.specs.Defining.{defined_by}
+use Rattle.macro_body.specs.Defining.{defined_by, in_gnu}
 use Rattle.macro_body.specs.Notes as expansion
 use Rattle.macro_expand.specs.Expansion.{expansion}
 use Rattle.unit_steps.specs.declared.events.Reached.{Reached}
 use Rattle.source_files.specs.Files.{SourceFile, Table}
 use Rattle.source_files.specs.Tables.{IsGrown}
 use Rattle.unit_steps.specs.Names.{spelled_in, linked_with, name_links, with_name, parameter_named, definition_links}
-use Rattle.unit_steps.specs.Notes.{Note, Reaches, Happened, Defined, Undefined, Tested, Left, Linked, Answered, Named, Entered, Exited, reached, reached_of, links_of, events_of}
+use Rattle.unit_steps.specs.Notes.{Note, Reaches, Happened, Defined, Undefined, Tested, Left, Linked, Answered, Named, Entered, Exited, ReadOnce, reached, reached_of, links_of, events_of}
 use Rattle.unit_steps.specs.State.{State}
 use Rattle.source_files.specs.Sources.{source_at}
 use Rattle.unit_steps.specs.Texts.{UnitTextValue, reached_in, unit_text}
@@ -108,6 +108,7 @@ quiet_none (Answered t) quiet = (tt, tt)
 quiet_none (Named toks) quiet = (tt, tt)
 quiet_none (Entered at file before) quiet = (tt, tt)
 quiet_none (Exited at file before) quiet = (tt, tt)
+quiet_none (ReadOnce passed at file before) quiet = (tt, tt)
 quiet_none (Reaches file item evaluated before) quiet = absurd quiet
 quiet_none (Happened run before note) quiet = absurd quiet
 quiet_none (Defined m before) quiet = absurd quiet
@@ -161,10 +162,10 @@ module _ (table : Table) where
   define_none : (m : Definition) (s : State) → NoReach (define_notes m s)
   define_none m s = (tt, no_reach_both (name_links m.name s) (definition_links m) (links_none m.name s) (uses_none m.params m.body))
 
-  defined_uses : (file : SourceFile) (k : ℕ) (i : ItemText) (m : Definition) (s : State) → IsItem table file k i → defined_by i.toks ≡ Some m
-      → Uses table s (Reaches file.number k false s.before ∷ define_notes m s) (after_define m s)
-  defined_uses file k i m s item defined =
-      first_uses s (after_define m s) file.number k false s.before (define_notes m s) (define_none m s) (record {
+  defined_uses : (gnu : Bool) (file : SourceFile) (k : ℕ) (i : ItemText) (m : Definition) (s : State) → IsItem table file k i → defined_by i.toks ≡ Some m
+      → Uses table s (Reaches file.number k false s.before ∷ define_notes (in_gnu gnu m) s) (after_define (in_gnu gnu m) s)
+  defined_uses gnu file k i m s item defined =
+      first_uses s (after_define (in_gnu gnu m) s) file.number k false s.before (define_notes (in_gnu gnu m) s) (define_none (in_gnu gnu m) s) (record {
         file = file;
         is_kept = item.is_kept;
         item = i;
@@ -182,12 +183,14 @@ module _ (table : Table) where
     both = both_uses;
     tables = λ s t. no_uses s (record s { table = t }) [] tt;
     counts = λ s n. no_uses s (record s { before = n }) [] tt;
+    places = λ s behind. no_uses s (record s { behind = behind }) [] tt;
+    once = λ s numbers. no_uses s (record s { once = numbers }) [] tt;
     expands = λ run path toks s e is. no_uses s (record s { work = e.left }) (map (Happened run s.before) e.notes) (happened_none run s.before e.notes);
     tested = λ name s. no_uses s (with_name name s) (test_notes name s) (tt, links_none name s);
     left = λ name s. no_uses s (with_name name s) (Left name s.before ∷ name_links name s) (tt, links_none name s);
     undefined = λ name s. no_uses s (after_undef name s) (Undefined name s.before ∷ name_links name s) (tt, links_none name s);
     quiet = λ note s quiet. no_uses s s (note ∷ []) (quiet_none note quiet);
-    defined = λ file k i m s item is by. defined_uses file k i m s item by;
+    defined = λ gnu file k i m s item is by. defined_uses gnu file k i m s item by;
     reaches = λ file k i evaluated s item other. reaches_uses file k i evaluated s item other;
   }
 
@@ -198,9 +201,6 @@ record IsReachedBy (notes : List Note) (r : Reached) : Type 0 where
   evaluated : Bool
   before : ℕ
   told : IsIn notes (Reaches r.file r.item evaluated before)
-
-same_reached : (r x : Reached) (number k : ℕ) → r ≡ x → (r.file ≡ number) × (r.item ≡ k) → (x.file ≡ number) × (x.item ≡ k)
-same_reached r x number k same h = subst (λ (y : Reached). (y.file ≡ number) × (y.item ≡ k)) same h
 
 reached_by : (events : ℕ) (note : Note) (r : Reached) → IsIn (reached_of events note) r → IsReachedBy (note ∷ []) r
 reached_by events (Reaches file item evaluated before) r (zero, e) =
@@ -218,6 +218,8 @@ reached_by events (Answered t) r i = absurd (none-some r i.1)
 reached_by events (Named toks) r i = absurd (none-some r i.1)
 reached_by events (Entered at file before) r i = absurd (none-some r i.1)
 reached_by events (Exited at file before) r i = absurd (none-some r i.1)
+reached_by events (ReadOnce true at file before) r i = absurd (none-some r i.1)
+reached_by events (ReadOnce false at file before) r i = absurd (none-some r i.1)
 
 reached_note : (events : ℕ) (notes : List Note) (r : Reached) → IsIn (reached_in events notes) r → IsReachedBy notes r
 unfolding reached_in

@@ -1,33 +1,35 @@
 -- The items of files: what is true of what they give.
-use Rattle.std.proofs.Common.{◌≡◌, ℕ, zero, suc, ◌+◌, Bool, true, false, not, cond, List, [], ◌∷◌, ◌++◌, take, drop, Some, None, Err, refl, subst, arith}
+use Rattle.std.proofs.Common.{◌≡◌, ℕ, zero, suc, ◌+◌, Bool, true, false, not, ◌&&◌, cond, List, [], ◌∷◌, ◌++◌, take, drop, Some, None, Err, refl, subst, arith}
 use Rattle.std.specs.Prelude.{slice_get}
 use Rattle.cs_base.specs.declared.causes.Cause.TheVariants as cause
 use Rattle.cs_base.specs.declared.positions.Pos.{Pos}
 use Rattle.cs_base.specs.Token.{Token}
-use Rattle.cs_base.specs.Units.{UnitValue}
+use Rattle.cs_base.specs.Units.{UnitValue, is_gnu}
 use Rattle.lexer.specs.FileText.{file_text}
 use Rattle.line_shape.specs.declared.items.ItemKind.{ItemKind}
 use Rattle.line_shape.specs.declared.items.ItemKind.TheVariants as kind
-use Rattle.line_shape.specs.Directives.{is_run, is_include}
+use Rattle.line_shape.specs.declared.items.GnuLine.TheVariants as gnu
+use Rattle.line_shape.specs.Directives.{is_run}
 use Rattle.line_shape.specs.Items.{line_kind}
 use Rattle.source_files.specs.Limits.{the_limits}
 use Rattle.source_files.specs.Faults.{fault_at}
+use Rattle.source_files.proofs.TableLemmas.{grown_refl}
 use Rattle.source_files.specs.Files.{Source, SourceFile, Table}
 use Rattle.unit_steps.specs.Notes.{Note, Reaches}
 use Rattle.unit_steps.specs.State.{Context, context, State, Outcome, only, onward}
 use Rattle.include_tree.specs.Including.{Inner}
 use Rattle.include_tree.specs.Sections.{Group, Processed, Awaited, Over, Skipped, Section, section, are_processed, group_if, group_after, group_of_else, Turn, Opens, GoesOn, GoesLast, Ends, Stays, turn_of}
 use Rattle.unit_steps.specs.Conditions.{holds}
-use Rattle.unit_steps.specs.Directives.{opens_with, is_if}
-use Rattle.include_tree.specs.Walk.{ItemText, items_in, processed, Stepped, stepped, reaching, reaching_alive, go_on, opens, goes_on, in_section, turned, item_step, file_end, walk, file_items}
+use Rattle.unit_steps.specs.Directives.{opens_with, goes_with, is_if, says_once, said_once, pragma_of}
+use Rattle.include_tree.specs.Walk.{ItemText, items_in, processed, Stepped, stepped, reaching, reaching_alive, go_on, opens, goes_on, in_section, turned, is_foreign, foreign_line, item_step, file_end, walk, file_items}
 use Rattle.expansion_laws.proofs.ListLemmas.{AllToks, each_tok}
-use Rattle.unit_laws.specs.UnitItems.{expanded_name, taken}
-use Rattle.unit_laws.proofs.DoneLemmas.{UnitRules, PlaceHas, Done, done_more, done_told, done_onward, done_cond, done_only}
+use Rattle.unit_laws.specs.UnitItems.{expanded_name, taken_next, taken}
+use Rattle.unit_laws.proofs.DoneLemmas.{UnitRules, PlaceHas, tells_place, Done, done_more, done_told, done_onward, done_cond, done_only}
 use Rattle.unit_laws.proofs.PartLemmas.{toks_both, item_has}
 use Rattle.unit_laws.proofs.ExpandingLemmas.{run_done}
 use Rattle.unit_laws.proofs.DefiningLemmas.{define_done, undef_done, asks_done}
 use Rattle.unit_laws.proofs.ConditionLemmas.{holds_done}
-use Rattle.unit_laws.proofs.IncludeLemmas.{Any, FileIs, ProcessDone, InnerDone, include_done}
+use Rattle.unit_laws.proofs.IncludeLemmas.{Any, FileIs, ProcessDone, InnerDone, include_done, include_next_done}
 
 abbrev AnyTok : Token → Type 0
 AnyTok t = Unit {0}
@@ -45,7 +47,7 @@ module _ (P : Token → Type 0) (M : Note → Type 0) (table : Table) (rules : U
   -- what an item of this kind has, a condition that is evaluated or not
   abbrev KindHas : ItemKind → Bool → Pos → List Token → Type 0
   KindHas k evaluated at toks =
-      AllToks P (taken k evaluated toks) × (is_run k ≡ false → line_kind toks ≡ k) × (is_include k ≡ true → PlaceHas P at)
+      AllToks P (taken k evaluated toks) × (is_run k ≡ false → line_kind toks ≡ k) × (tells_place k ≡ true → PlaceHas P at)
 
   -- item k of a kept file
   pub record IsItem (file : SourceFile) (k : ℕ) (i : ItemText) : Type 0 where
@@ -63,13 +65,19 @@ module _ (P : Token → Type 0) (M : Note → Type 0) (table : Table) (rules : U
   nothing_done : (pre : Type 0) (s : State) → Done P M table pre (AllToks P) s (only [] s)
   nothing_done pre s = done_only P M table pre (AllToks P) s [] (λ p. tt)
 
+  pragma_done : (gnu_ : Bool) (file : SourceFile) (at : Pos) (toks : List Token) (s : State)
+      → Done P M table (KindHas kind.Pragma false at toks) (AllToks P) s (pragma_of gnu_ file at toks s)
+  pragma_done gnu_ file at toks s =
+      done_cond P M table (KindHas kind.Pragma false at toks) (AllToks P) s (gnu_ && says_once toks) (said_once file at s) (only [] s)
+      (grown_refl s.table, λ p reach has told. (tt, record { macros = has.macros; names = has.names }, (p.2 refl, tt))) (nothing_done (KindHas kind.Pragma false at toks) s)
+
   processed_done : (inner : Inner) → InnerDone P M table rules source unit earlier inner → (file : SourceFile) (k : ItemKind) (at : Pos) (toks : List Token) (s : State)
       → Done P M table (KindHas k false at toks) (AllToks P) s (processed ctx inner file k at toks s)
   processed_done inner known file kind.Run at toks s =
       done_more P M table (AllToks P toks) (KindHas kind.Run false at toks) (AllToks P) (AllToks P) s (processed ctx inner file kind.Run at toks s) (λ p. p.0) (λ a p k. k) (run_done P M table rules ctx file toks s)
   processed_done inner known file kind.Define at toks s =
       done_more P M table (AllToks P (drop 2 toks) × (line_kind toks ≡ kind.Define)) (KindHas kind.Define false at toks) (AllToks P) (AllToks P) s (processed ctx inner file kind.Define at toks s)
-      (λ p. (p.0, p.1 refl)) (λ a p k. k) (define_done P M table kind.Define file at toks s refl)
+      (λ p. (p.0, p.1 refl)) (λ a p k. k) (define_done P M table kind.Define (is_gnu unit.standard) file at toks s refl)
   processed_done inner known file kind.Undef at toks s =
       done_more P M table (AllToks P (take 1 (drop 2 toks)) × (line_kind toks ≡ kind.Undef)) (KindHas kind.Undef false at toks) (AllToks P) (AllToks P) s (processed ctx inner file kind.Undef at toks s)
       (λ p. (p.0, p.1 refl)) (λ a p k. k) (undef_done P M table kind.Undef file at toks s refl)
@@ -77,6 +85,12 @@ module _ (P : Token → Type 0) (M : Note → Type 0) (table : Table) (rules : U
       done_more P M table (AllToks P (expanded_name (drop 2 toks)) × PlaceHas P at) (KindHas kind.Include false at toks) (AllToks P) (AllToks P) s (processed ctx inner file kind.Include at toks s) (λ p. (p.0, p.2 refl)) (λ a p k. k) (include_done P M table rules source unit earlier inner known file at toks s)
   processed_done inner known file kind.Error at toks s = tt
   processed_done inner known file (kind.Bad c place nests) at toks s = tt
+  processed_done inner known file (kind.Gnu gnu.IncludeNext) at toks s =
+      let k : ItemKind = kind.Gnu gnu.IncludeNext in
+      done_more P M table (AllToks P (taken_next (drop 2 toks)) × PlaceHas P at) (KindHas k false at toks) (AllToks P) (AllToks P) s (processed ctx inner file k at toks s) (λ p. (p.0, p.2 refl)) (λ a p k. k) (include_next_done P M table rules source unit earlier inner known file at toks s)
+  processed_done inner known file (kind.Gnu gnu.Message) at toks s = nothing_done (KindHas (kind.Gnu gnu.Message) false at toks) s
+  processed_done inner known file (kind.Gnu gnu.Elifdef) at toks s = nothing_done (KindHas (kind.Gnu gnu.Elifdef) false at toks) s
+  processed_done inner known file (kind.Gnu gnu.Elifndef) at toks s = nothing_done (KindHas (kind.Gnu gnu.Elifndef) false at toks) s
   processed_done inner known file kind.If at toks s = nothing_done (KindHas kind.If false at toks) s
   processed_done inner known file kind.Ifdef at toks s = nothing_done (KindHas kind.Ifdef false at toks) s
   processed_done inner known file kind.Ifndef at toks s = nothing_done (KindHas kind.Ifndef false at toks) s
@@ -84,7 +98,7 @@ module _ (P : Token → Type 0) (M : Note → Type 0) (table : Table) (rules : U
   processed_done inner known file kind.Else at toks s = nothing_done (KindHas kind.Else false at toks) s
   processed_done inner known file kind.Endif at toks s = nothing_done (KindHas kind.Endif false at toks) s
   processed_done inner known file kind.Line at toks s = nothing_done (KindHas kind.Line false at toks) s
-  processed_done inner known file kind.Pragma at toks s = nothing_done (KindHas kind.Pragma false at toks) s
+  processed_done inner known file kind.Pragma at toks s = pragma_done (is_gnu unit.standard) file at toks s
   processed_done inner known file kind.Empty at toks s = nothing_done (KindHas kind.Empty false at toks) s
 
   abbrev AnyBool : Bool → Type 0
@@ -100,6 +114,7 @@ module _ (P : Token → Type 0) (M : Note → Type 0) (table : Table) (rules : U
       done_more P M table (AllToks P (take 1 (drop 2 toks)) × (line_kind toks ≡ kind.Ifndef)) (KindHas kind.Ifndef false at toks) AnyBool AnyBool s (opens_with kind.Ifndef file at toks s)
       (λ p. (p.0, p.1 refl)) (λ a p k. tt) (asks_done P M table kind.Ifndef file at not toks s refl)
   opens_with_done (kind.Bad c place nests) file at toks s = tt
+  opens_with_done (kind.Gnu line) file at toks s = tt
   opens_with_done kind.Run file at toks s = tt
   opens_with_done kind.Define file at toks s = tt
   opens_with_done kind.Undef file at toks s = tt
@@ -137,32 +152,42 @@ module _ (P : Token → Type 0) (M : Note → Type 0) (table : Table) (rules : U
       (opens_with_done i.kind file i.at i.toks s)))
       (only_done (IsItem file k i) s (stepped [] (section i.at Skipped false ∷ sections)) (λ p. tt))
 
-  -- only an `elif` line goes on with a section
-  elif_has : (k : ItemKind) (toks : List Token) → turn_of k ≡ GoesOn → AllToks P (taken k true toks) → AllToks P (drop 2 toks)
-  elif_has kind.Elif toks is h = h
-  elif_has kind.If toks is h = absurd (cc)
-  elif_has kind.Ifdef toks is h = absurd (cc)
-  elif_has kind.Ifndef toks is h = absurd (cc)
-  elif_has (kind.Bad c place true) toks is h = absurd (cc)
-  elif_has (kind.Bad c place false) toks is h = absurd (cc)
-  elif_has kind.Run toks is h = absurd (cc)
-  elif_has kind.Define toks is h = absurd (cc)
-  elif_has kind.Undef toks is h = absurd (cc)
-  elif_has kind.Else toks is h = absurd (cc)
-  elif_has kind.Endif toks is h = absurd (cc)
-  elif_has kind.Include toks is h = absurd (cc)
-  elif_has kind.Line toks is h = absurd (cc)
-  elif_has kind.Error toks is h = absurd (cc)
-  elif_has kind.Pragma toks is h = absurd (cc)
-  elif_has kind.Empty toks is h = absurd (cc)
+  -- only an `elif` line goes on with a section, and in GNU C one that asks for a name
+  goes_with_done : (k : ItemKind) (file : SourceFile) (at : Pos) (toks : List Token) (s : State) → turn_of k ≡ GoesOn
+      → Done P M table (KindHas k true at toks) AnyBool s (goes_with k file at toks s)
+  goes_with_done kind.Elif file at toks s is =
+      done_more P M table (AllToks P (drop 2 toks)) (KindHas kind.Elif true at toks) AnyBool AnyBool s (goes_with kind.Elif file at toks s) (λ p. p.0) (λ a p k. tt) (holds_done P M table rules file at (drop 2 toks) s)
+  goes_with_done (kind.Gnu gnu.Elifdef) file at toks s is =
+      done_more P M table (AllToks P (take 1 (drop 2 toks)) × (line_kind toks ≡ kind.Gnu gnu.Elifdef)) (KindHas (kind.Gnu gnu.Elifdef) true at toks) AnyBool AnyBool s (goes_with (kind.Gnu gnu.Elifdef) file at toks s)
+      (λ p. (p.0, p.1 refl)) (λ a p k. tt) (asks_done P M table (kind.Gnu gnu.Elifdef) file at (λ b. b) toks s refl)
+  goes_with_done (kind.Gnu gnu.Elifndef) file at toks s is =
+      done_more P M table (AllToks P (take 1 (drop 2 toks)) × (line_kind toks ≡ kind.Gnu gnu.Elifndef)) (KindHas (kind.Gnu gnu.Elifndef) true at toks) AnyBool AnyBool s (goes_with (kind.Gnu gnu.Elifndef) file at toks s)
+      (λ p. (p.0, p.1 refl)) (λ a p k. tt) (asks_done P M table (kind.Gnu gnu.Elifndef) file at not toks s refl)
+  goes_with_done (kind.Gnu gnu.IncludeNext) file at toks s is = tt
+  goes_with_done (kind.Gnu gnu.Message) file at toks s is = tt
+  goes_with_done (kind.Bad c place true) file at toks s is = absurd (cc)
+  goes_with_done (kind.Bad c place false) file at toks s is = absurd (cc)
+  goes_with_done kind.If file at toks s is = absurd (cc)
+  goes_with_done kind.Ifdef file at toks s is = absurd (cc)
+  goes_with_done kind.Ifndef file at toks s is = absurd (cc)
+  goes_with_done kind.Run file at toks s is = absurd (cc)
+  goes_with_done kind.Define file at toks s is = absurd (cc)
+  goes_with_done kind.Undef file at toks s is = absurd (cc)
+  goes_with_done kind.Else file at toks s is = absurd (cc)
+  goes_with_done kind.Endif file at toks s is = absurd (cc)
+  goes_with_done kind.Include file at toks s is = absurd (cc)
+  goes_with_done kind.Line file at toks s is = absurd (cc)
+  goes_with_done kind.Error file at toks s is = absurd (cc)
+  goes_with_done kind.Pragma file at toks s is = absurd (cc)
+  goes_with_done kind.Empty file at toks s is = absurd (cc)
 
   goes_on_done : (file : SourceFile) (k : ℕ) (i : ItemText) (open_ : Section) (sections : List Section) (s : State) (g : Group) → turn_of i.kind ≡ GoesOn
       → Done P M table (IsItem file k i) (SteppedHas P) s (goes_on file k i open_ sections s g)
   goes_on_done file k i open_ sections s Awaited elif =
-      reaching_done (IsItem file k i) (AllToks P (drop 2 i.toks)) file k true s (onward (holds file i.at (drop 2 i.toks) s) (λ b t. only (go_on open_ (group_if b) false sections) t))
-      (λ is told. elif_has i.kind i.toks elif (reached_has file k i true s.before is told).0)
-      (then_only (AllToks P (drop 2 i.toks)) s (holds file i.at (drop 2 i.toks) s) (λ b. go_on open_ (group_if b) false sections) (λ b. tt)
-      (holds_done P M table rules file i.at (drop 2 i.toks) s))
+      reaching_done (IsItem file k i) (KindHas i.kind true i.at i.toks) file k true s (onward (goes_with i.kind file i.at i.toks s) (λ b t. only (go_on open_ (group_if b) false sections) t))
+      (λ is told. reached_has file k i true s.before is told)
+      (then_only (KindHas i.kind true i.at i.toks) s (goes_with i.kind file i.at i.toks s) (λ b. go_on open_ (group_if b) false sections) (λ b. tt)
+      (goes_with_done i.kind file i.at i.toks s elif))
   goes_on_done file k i open_ sections s Skipped elif = only_done (IsItem file k i) s (go_on open_ Skipped false sections) (λ p. tt)
   goes_on_done file k i open_ sections s Processed elif =
       reaching_done (IsItem file k i) (Unit {0}) file k false s (only (go_on open_ (group_after Processed) false sections) s) (λ is told. tt) (only_done (Unit {0}) s (go_on open_ (group_after Processed) false sections) (λ p. tt))
@@ -228,6 +253,16 @@ module _ (P : Token → Type 0) (M : Note → Type 0) (table : Table) (rules : U
       (processed_done inner known file i.kind i.at i.toks s)))
       (only_done (IsItem file k i) s (stepped [] sections) (λ p. tt))
 
+  -- a line that GNU C alone has, or an item as it is
+  step_done : (inner : Inner) → InnerDone P M table rules source unit earlier inner → (file : SourceFile) (k : ℕ) (i : ItemText) (sections : List Section) (s : State)
+      → Done P M table (IsItem file k i) (SteppedHas P) s (item_step ctx inner file k i sections s)
+  step_done inner known file k i sections s =
+      done_cond P M table (IsItem file k i) (SteppedHas P) s (is_foreign unit.standard i.kind) (foreign_line file i sections s)
+      (turned ctx inner file k i sections s (turn_of i.kind))
+      (done_cond P M table (IsItem file k i) (SteppedHas P) s (are_processed sections) (Err (fault_at file i.at cause.BadDirective)) (only (stepped [] sections) s) tt
+      (only_done (IsItem file k i) s (stepped [] sections) (λ p. tt)))
+      (turned_done inner known file k i sections s (turn_of i.kind) refl)
+
   -- ---- files
 
   end_done : (pre : Type 0) (file : SourceFile) (sections : List Section) (s : State) → Done P M table pre (AllToks P) s (file_end file sections s)
@@ -267,7 +302,7 @@ module _ (P : Token → Type 0) (M : Note → Type 0) (table : Table) (rules : U
       done_onward P M table (AreItems file k (i ∷ items)) (SteppedHas P) (AllToks P) s (item_step ctx inner file k i sections s)
       (λ d t. onward (walk ctx inner file (k + 1) items d.sections t) (λ toks u. only (d.toks ++ toks) u))
       (done_more P M table (IsItem file k i) (AreItems file k (i ∷ items)) (SteppedHas P) (SteppedHas P) s (item_step ctx inner file k i sections s) (λ p. first_item file k i items p) (λ a p h. h)
-      (turned_done inner known file k i sections s (turn_of i.kind) refl))
+      (step_done inner known file k i sections s))
       (λ d t. both_done (AreItems file k (i ∷ items) × SteppedHas P d) d.toks t (walk ctx inner file (k + 1) items d.sections t) (λ p. p.1)
       (done_more P M table (AreItems file (k + 1) items) (AreItems file k (i ∷ items) × SteppedHas P d) (AllToks P) (AllToks P) t (walk ctx inner file (k + 1) items d.sections t) (λ p. later_items file k i items p.0) (λ a p h. h)
       (walk_done inner known file (k + 1) items d.sections t)))

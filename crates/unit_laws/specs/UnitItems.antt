@@ -7,9 +7,11 @@ use Rattle.cs_base.specs.Units.{UnitValue}
 use Rattle.lexer.specs.Characters.{double_quote}
 use Rattle.line_shape.specs.declared.items.ItemKind.{ItemKind}
 use Rattle.line_shape.specs.declared.items.ItemKind.TheVariants as kind
+use Rattle.line_shape.specs.declared.items.GnuLine.{GnuLine}
+use Rattle.line_shape.specs.declared.items.GnuLine.TheVariants.{IncludeNext, Elifdef, Elifndef}
 use Rattle.unit_steps.specs.declared.events.Reached.{Reached}
 use Rattle.source_files.specs.Files.{Source, SourceFile, Table, Carried}
-use Rattle.source_files.specs.HeaderNames.{is_header}
+use Rattle.source_files.specs.HeaderNames.{is_header, begins_header}
 use Rattle.source_files.specs.Sources.{source_at}
 use Rattle.unit_steps.specs.Texts.{UnitTextValue}
 use Rattle.include_tree.specs.Preprocessed.{Preprocessed, preprocessed}
@@ -23,6 +25,17 @@ abbrev pub expanded_name : List Token → List Token
 expanded_name [] = []
 expanded_name (t ∷ toks) = if is_header t.kind then [] else t ∷ toks
 
+-- the tokens behind the word of a line that asks for the next file of a name, unless they begin as a header
+abbrev pub taken_next : List Token → List Token
+taken_next toks = if begins_header toks then [] else toks
+
+-- the tokens that are taken from a line that GNU C alone has: the name that it asks for
+abbrev pub taken_line : GnuLine → Bool → List Token → List Token
+taken_line Elifdef true toks = take 1 (drop 2 toks)
+taken_line Elifndef true toks = take 1 (drop 2 toks)
+taken_line IncludeNext evaluated toks = taken_next (drop 2 toks)
+taken_line _ evaluated toks = []
+
 -- The tokens that are taken from an item: all of a run; the name, the parameters and the replacement list of a
 -- definition; the name behind `undef`, `ifdef` and `ifndef`; what stands behind the word in a condition that is
 -- evaluated, and in an include line that is expanded.
@@ -35,6 +48,7 @@ taken kind.Ifndef evaluated toks = take 1 (drop 2 toks)
 taken kind.If true toks = drop 2 toks
 taken kind.Elif true toks = drop 2 toks
 taken kind.Include evaluated toks = expanded_name (drop 2 toks)
+taken (kind.Gnu line) evaluated toks = taken_line line evaluated toks
 taken _ evaluated toks = []
 
 -- what is taken from the items that a unit reached, spelled with such characters, is made of these tokens

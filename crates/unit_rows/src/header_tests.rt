@@ -48,7 +48,7 @@ fn paths(alloc: Global, ws: &[u8], text: &[u8], path: &[u8]) -> Result<Vec<Text>
     let toks = toks(alloc, text)?;
     let ws = read_ws(alloc, ws)?;
     match (header_of_toks(alloc, &toks)?, ws.units().first()) {
-        (Some(header), Some(unit)) => Ok(candidates_of(alloc, &header, path, unit)?),
+        (Some(header), Some(unit)) => Ok(candidates_of(alloc, false, &header, None, path, unit)?),
         _ => Ok(Vec::new(alloc)),
     }
 }

@@ -5,22 +5,19 @@ use Rattle.std.specs.Option.{option_map}
 use Rattle.std.proofs.lemmas.Bool.{and_parts, and_from}
 use Rattle.std.proofs.lemmas.List.{append-nil}
 use Rattle.std.proofs.lemmas.Option.{same_Some}
-use Rattle.cs_base.specs.declared.tokens.Kind.TheVariants.{Number}
-use Rattle.cs_base.specs.Token.{Token, token}
-use Rattle.cs_base.specs.Padding.{padded}
-use Rattle.source_files.specs.Below.lexer.Places.{pos}
+use Rattle.cs_base.specs.Token.{Token}
 use Rattle.macro_expand.specs.Below.macro_body.Sound.{is_traced, is_low}
 use Rattle.unit_steps.specs.declared.progress.Progress.{Progress}
 use Rattle.source_files.specs.Files.{Table}
 use Rattle.unit_steps.specs.Notes.{Answered}
 use Rattle.unit_steps.specs.State.{State}
 use Rattle.unit_steps.specs.Names.{with_name}
-use Rattle.unit_steps.specs.Conditions.{Piece, Plain, Asks, is_defined, operand_of, onto_pieces, asks_with, pieces_from, digit_of, digit_place, answer_for, is_macro, test_notes, answered}
+use Rattle.unit_steps.specs.Conditions.{Piece, Plain, Asks, is_defined, operand_of, onto_pieces, asks_with, pieces_from, answer_for, is_macro, test_notes, answered}
 use Rattle.unit_steps.specs.Texts.{UnitTextValue}
 use Rattle.unit_steps.specs.FirstNames.{names_with}
 use Rattle.unit_steps.specs.Keeping.{noted_in}
 use Rattle.unit_steps.specs.Moments.{state_in}
-use Rattle.unit_steps.specs.Answering.{answer_notes, Asked, asked_kept, asked_in, behind}
+use Rattle.unit_steps.specs.Answering.{answer_notes, asked_kept, asked_in, behind}
 use Rattle.unit_steps.proofs.KeepingLemmas.{noted_in-nil, noted_in-append}
 use Rattle.unit_steps.proofs.DefiningLemmas.{noted_at}
 
@@ -36,11 +33,6 @@ pub asked_in-drop : (k : UnitTextValue) (n : ℕ) (toks rest : List Token) (s : 
 unfolding asked_in
 asked_in-drop k n toks rest s is =
     ap (λ (o : Option (List Piece)). asked_kept k (option_map (λ pieces. answered pieces s) o)) (pieces_from-drop n toks ∙ ap (λ (ts : List Token). pieces_from 0 ts) (sym is))
-
--- in front of nothing
-pub behind-nil : (r : Asked) → r ≡ behind [] r
-behind-nil None = refl
-behind-nil (Some r) = refl
 
 -- no token is left
 pub asked_in-end : (k : UnitTextValue) (out toks : List Token) (s : State) → length toks ≡ 0 → behind out (asked_in k 0 toks s) ≡ Some (out, s, k)
@@ -102,11 +94,6 @@ answer-known table p q word name number b t known is step text =
     ∙ ap (λ (u : UnitTextValue). record p { names = names_with name p.names; text = u })
     (text ∙ ap (λ (x : Progress). noted_in x.text (Answered number ∷ [])) step ∙ ap (λ (x : Token). noted_in (noted_in p.text notes) (Answered x ∷ [])) (is ∙ ap (answer_for word) known)
     ∙ sym (noted_in-append p.text notes (Answered (answer_for word (is_macro name (state_in table p))) ∷ [])))
-
--- the token that is made
-pub answer-made : (word : Token) (b : Bool) → token Number (digit_of b) (padded (length (digit_of b)) (Some (pos 0 (digit_place b)) ∷ [])) word.gap word.at word.line false ≡ answer_for word b
-answer-made word true = refl
-answer-made word false = refl
 
 -- ---- answers come from somewhere
 

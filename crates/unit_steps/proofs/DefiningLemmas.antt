@@ -1,16 +1,18 @@
 -- What is kept where a macro is defined, taken away or asked for.
-use Rattle.std.proofs.Common.{◌≡◌, ℕ, ◌+◌, ◌<◌, ◌≤◌, Bool, true, false, not, cond, List, [], ◌∷◌, ◌++◌, take, get_or, Option, Some, None, Result, Ok, IsTrue, is_some, length, refl, sym, ◌∙◌, ap, subst}
+use Rattle.std.proofs.Common.{◌≡◌, ℕ, ◌+◌, ◌<◌, ◌≤◌, Bool, true, false, not, cond, List, [], ◌∷◌, ◌++◌, take, get_or, Option, Some, None, Result, Ok, IsTrue, is_some, length, refl, sym, ◌∙◌, ap, subst, Err}
+use Rattle.std.specs.Prelude.{IfSome}
 use mathlib.Core.Bool.{beq}
 use Rattle.std.specs.List.{flat_map, list_all}
 use Rattle.std.proofs.lemmas.List.{append-nil, take_all}
 use Rattle.std.proofs.lemmas.List.Concat.{flat_map-append}
+use Rattle.cs_base.specs.declared.causes.Cause.TheVariants.{BadDirective}
 use Rattle.cs_base.specs.Token.{Token}
 use Rattle.cs_base.specs.declared.positions.Pos.{Pos}
 use Rattle.source_files.specs.Below.line_shape.Signs.{is_name}
 use Rattle.macro_expand.specs.Below.macro_body.declared.definitions.Definition.{Definition}
 use Rattle.macro_expand.specs.Below.macro_body.Macro.{Table as Macros}
 use Rattle.macro_expand.specs.Below.macro_body.Live.{Entries, table_of, with_macro, without_macro}
-use Rattle.macro_expand.specs.Below.macro_body.Defining.{defined_by}
+use Rattle.macro_expand.specs.Below.macro_body.Defining.{defined_by, in_gnu}
 use Rattle.macro_expand.specs.Below.macro_body.Sound.{is_traced, AllTraced}
 use Rattle.macro_expand.proofs.TracedLemmas.{traced-with_macro, traced-without_macro}
 use Rattle.unit_steps.specs.declared.events.Event.{Event}
@@ -18,16 +20,16 @@ use Rattle.unit_steps.specs.declared.events.EventKind.{EventKind}
 use Rattle.unit_steps.specs.declared.events.EventKind.TheVariants as kind
 use Rattle.unit_steps.specs.declared.progress.Progress.{Progress}
 use Rattle.source_files.specs.Files.{SourceFile, Table}
-use Rattle.source_files.specs.Faults.{Fault}
+use Rattle.source_files.specs.Faults.{Fault, fault_at}
 use Rattle.unit_steps.specs.Notes.{Note, Defined, Undefined, Tested, Left, named_event}
-use Rattle.unit_steps.specs.State.{State}
+use Rattle.unit_steps.specs.State.{State, did, Outcome}
 use Rattle.unit_steps.specs.Names.{spelled_in, linked_with, with_name, parameter_named, definition_links}
 use Rattle.unit_steps.specs.Texts.{UnitTextValue, text_of, reached_in}
 use Rattle.unit_steps.specs.FirstNames.{names_with}
 use Rattle.unit_steps.specs.Keeping.{noted_in, put_in, kept_after, put_after}
 use Rattle.unit_steps.specs.Moments.{state_in, IsAble, named_in, with_event}
 use Rattle.unit_steps.specs.Conditions.{is_macro, test_notes}
-use Rattle.unit_steps.specs.Directives.{operand_in, define_notes, define_of, defined_as, undef_of, undefined_as, asks_name}
+use Rattle.unit_steps.specs.Directives.{operand_in, define_notes, define_of, defined_as, undef_of, undefined_as, asks_name, after_define, may_define}
 use Rattle.unit_steps.proofs.KeepingLemmas.{noted_in-nil, noted_in-append}
 use Rattle.unit_steps.proofs.FirstNamesLemmas.{take-push}
 
@@ -164,13 +166,28 @@ changed-line table p q name notes new macros is news =
     ∙ ap (λ (t : Macros). done (record (state_in table p) { names = names_with name p.names; macros = t }) (noted_in p.text notes)) (sym news)
     ∙ ap (λ (x : Progress). done (state_in table (record x { macros = new })) x.text) (sym is)
 
-pub define-line : (table : Table) (file : SourceFile) (at : Pos) (toks : List Token) (p q : Progress) (new : Entries) (m : Definition) → defined_by toks ≡ Some m
-    → q ≡ noted_at m.name (define_notes m (state_in table p)) p → table_of new ≡ with_macro m (table_of q.macros)
-    → put_after p.text (define_of file at toks (state_in table p)) ≡ Ok (state_in table (record q { macros = new }), q.text)
-define-line table file at toks p q new m found is news =
-    ap (λ (o : Option Definition). put_after p.text (defined_as file at (state_in table p) o)) found
+-- what a line gives that defines this macro
+abbrev line_defined : SourceFile → Pos → Definition → State → Bool → Outcome (List Token)
+line_defined file at m s b = cond b (Ok (did [] (define_notes m s) (after_define m s))) (Err (fault_at file at BadDirective))
+
+pub define-line : (gnu : Bool) (table : Table) (file : SourceFile) (at : Pos) (toks : List Token) (p q : Progress) (new : Entries) (d m : Definition) → defined_by toks ≡ Some d
+    → may_define gnu d ≡ true → m ≡ in_gnu gnu d → q ≡ noted_at m.name (define_notes m (state_in table p)) p → table_of new ≡ with_macro m (table_of q.macros)
+    → put_after p.text (define_of gnu file at toks (state_in table p)) ≡ Ok (state_in table (record q { macros = new }), q.text)
+define-line gnu table file at toks p q new d m found may same is news =
+    ap (λ (o : Option Definition). put_after p.text (defined_as gnu file at (state_in table p) o)) found
+    ∙ ap (λ (b : Bool). put_after p.text (line_defined file at (in_gnu gnu d) (state_in table p) b)) may
+    ∙ ap (λ (x : Definition). put_after p.text (line_defined file at x (state_in table p) true)) (sym same)
     ∙ changed-line table p q m.name (define_notes m (state_in table p)) new (with_macro m (table_of p.macros)) is
     (news ∙ ap (λ (x : Progress). with_macro m (table_of x.macros)) is)
+
+-- a macro that such a unit has none of
+pub define-refused : (gnu : Bool) (file : SourceFile) (at : Pos) (toks : List Token) (s : State) (k : UnitTextValue) (d : Definition) (q : Option Fault) → defined_by toks ≡ Some d
+    → may_define gnu d ≡ false → IfSome q (λ f. f ≡ fault_at file at BadDirective) → IfSome q (λ f. put_after k (define_of gnu file at toks s) ≡ Err f)
+define-refused gnu file at toks s k d None found may h = tt
+define-refused gnu file at toks s k d (Some f) found may h =
+    ap (λ (o : Option Definition). put_after k (defined_as gnu file at s o)) found
+    ∙ ap (λ (b : Bool). put_after k (line_defined file at (in_gnu gnu d) s b)) may
+    ∙ ap (λ (x : Fault). Err x) (sym h)
 
 pub define-able : (p q : Progress) (new : Entries) (m : Definition) (notes : List Note) → q ≡ noted_at m.name notes p → table_of new ≡ with_macro m (table_of q.macros)
     → IsTrue (list_all is_traced m.body) → IsAble p → IsAble (record q { macros = new })

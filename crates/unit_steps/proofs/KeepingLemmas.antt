@@ -46,6 +46,10 @@ unfolding reached_in
 noted_in-nil k =
     λ i. text_of k.toks (append-nil k.links i) (append-nil k.pasted i) (append-nil k.stringized i) (append-nil k.header i) (append-nil k.answers i) (append-nil k.reached i) (append-nil k.events i)
 
+-- Where no tokens are put out, none are kept besides.
+pub put-nil : (k : UnitTextValue) → put_in k [] ≡ k
+put-nil k = ap (λ (toks : List Token). record k { toks = toks }) (append-nil k.toks)
+
 -- ---- an expansion
 
 abbrev wrapped : Bool → ℕ → List expansion.Note → List Note

@@ -21,6 +21,8 @@ state_in table p = record {
   work = p.work.left;
   names = p.names;
   before = length p.text.toks;
+  behind = p.behind;
+  once = p.once.items;
 }
 
 -- What is true at each moment.

@@ -15,7 +15,8 @@ use Rattle.unit_steps.specs.declared.events.Reached.{Reached}
 -- condition that is evaluated. Something happens in an expansion, in that of a run or in another. A line
 -- defines a macro, takes a name away, or asks for one; a name is left over in a condition. Two names are
 -- linked. A number stands for an operand of `defined`. An include line is expanded to tokens. A file is
--- entered, and left, by the include line whose `#` is there.
+-- entered, and left, by the include line whose `#` is there. A line whose `#` is there says that its file is read once, or
+-- an include line passes over a file of which that was said.
 pub data Note : Type 0 where
   Reaches : ℕ → ℕ → Bool → ℕ → Note
   Happened : Bool → ℕ → expansion.Note → Note
@@ -28,6 +29,7 @@ pub data Note : Type 0 where
   Named : List Token → Note
   Entered : Pos → ℕ → ℕ → Note
   Exited : Pos → ℕ → ℕ → Note
+  ReadOnce : Bool → Pos → ℕ → ℕ → Note
 
 -- ---- what callers read of them
 
@@ -53,10 +55,15 @@ abbrev pub named_event : EventKind → Token → Option Pos → ℕ → Event
 named_event kind name def before =
     record { kind = kind; name = Some name; at = name.at; def = def; file = None; before = before }
 
--- one at an include line
+-- one at a line that includes a file, or says something of its own
 abbrev pub file_event : EventKind → Pos → ℕ → ℕ → Event
 file_event kind at file before =
     record { kind = kind; name = None; at = at; def = None; file = Some file; before = before }
+
+-- the event of a file that is read once: it is passed over, or its line says so
+abbrev pub once_kind : Bool → EventKind
+once_kind true = kind.Passed
+once_kind false = kind.Once
 
 -- how many tokens were put out before, with those that an expansion of a run put out
 abbrev pub before_in : Bool → ℕ → ℕ → ℕ
@@ -101,6 +108,7 @@ events_of (Tested name before) = named_event kind.Tested name None before ∷ []
 events_of (Left name before) = named_event kind.Left name None before ∷ []
 events_of (Entered at file before) = file_event kind.Enter at file before ∷ []
 events_of (Exited at file before) = file_event kind.Leave at file before ∷ []
+events_of (ReadOnce passed at file before) = file_event (once_kind passed) at file before ∷ []
 events_of _ = []
 
 -- an item that is reached behind so many events

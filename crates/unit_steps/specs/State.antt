@@ -1,6 +1,6 @@
 -- What preprocessing a unit knows at each moment, and what each of its steps gives (ISO/IEC 9899:1999,
 -- 5.1.1.2 phase 4).
-use Rattle.std.specs.Prelude.{ℕ, List, [], ◌++◌, Result, Ok, Err}
+use Rattle.std.specs.Prelude.{ℕ, Option, List, [], ◌++◌, Result, Ok, Err}
 use Rattle.cs_base.specs.Token.{Token}
 use Rattle.cs_base.specs.Units.{UnitValue}
 use Rattle.macro_expand.specs.Below.macro_body.Macro.{Table as Macros}
@@ -24,13 +24,16 @@ context source reader unit limits earlier =
     record { source = source; reader = reader; unit = unit; limits = limits; earlier = earlier }
 
 -- What changes: the table of files, the macros that are defined, the work that is left, the first name of
--- each spelling among those that later ones are linked with, and how many tokens were put out.
+-- each spelling among those that later ones are linked with, how many tokens were put out, where a search for the
+-- next file of the present one's name begins, and the numbers of the files that are read once.
 pub record State : Type 0 where
   pub table : Table
   pub macros : Macros
   pub work : ℕ
   pub names : List Token
   pub before : ℕ
+  pub behind : Option ℕ
+  pub once : List ℕ
 
 -- What a step gives: a value, what happened, and the state behind it.
 pub record Did (A : Type 0) : Type 0 where

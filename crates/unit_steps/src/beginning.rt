@@ -1,5 +1,5 @@
 // What is known at the beginning of a unit (6.10.8).
-ghost use Rattle.std.specs.Prelude.{◌≡◌, ◌≤◌, [], IfOk};
+ghost use Rattle.std.specs.Prelude.{◌≡◌, ◌≤◌, [], IfOk, None};
 ghost use Rattle.cs_base.specs.Limits.{most_tokens, most_work};
 ghost use Rattle.macro_expand.specs.Below.macro_body.Live.{table_of};
 ghost use Rattle.macro_expand.specs.Below.macro_body.Defining.{first_definition, first_macros};
@@ -24,6 +24,8 @@ fn first_definition(alloc: Global, form: Form, name: &[u8]) -> Result<Definition
         form,
         params: Toks::new(Vec::new(alloc)),
         variadic: false,
+        named: false,
+        gnu: false,
         body: Toks::new(Vec::new(alloc)),
     })
 }
@@ -47,7 +49,7 @@ impl Progress {
         ensures able { IfOk result (λ p. IsAble p) }
         ensures most { IfOk result (λ p. p.most ≡ most) }
         ensures text { IfOk result (λ p. p.text ≡ no_text) }
-        ensures state { (table : Table) → IfOk result (λ p. state_in table p ≡ record { table = table; macros = first_macros; work = most_work; names = []; before = 0 }) }
+        ensures state { (table : Table) → IfOk result (λ p. state_in table p ≡ record { table = table; macros = first_macros; work = most_work; names = []; before = 0; behind = None; once = [] }) }
     {
         Ok(Progress {
             alloc,
@@ -56,6 +58,8 @@ impl Progress {
             names: FirstNames::new(alloc),
             most,
             text: UnitText::new(alloc),
+            behind: None,
+            once: Vec::new(alloc),
         })
     }
 }

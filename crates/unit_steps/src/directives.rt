@@ -1,7 +1,8 @@
-// Lines that define macros, take them away or ask for them (6.10.1, 6.10.3, 6.10.3.5).
-ghost use Rattle.std.specs.Prelude.{◌≡◌, ◌&&◌, not, IsTrue, IfOk, OnOk, Some, cond, drop, option_copied, IfErr};
-ghost use Rattle.std.specs.List.{flat_map, list_all};
+// Lines that define macros, take them away or ask for them (6.10.1, 6.10.3, 6.10.3.5), and pragmas (6.10.6).
+ghost use Rattle.std.specs.Prelude.{◌≡◌, ◌∷◌, [], ◌&&◌, not, false, IsTrue, IfOk, OnOk, Ok, Some, codes, cond, drop, length, option_copied, IfErr};
+ghost use Rattle.std.specs.List.{flat_map, list_all, list_any};
 ghost use Rattle.cs_base.specs.Answer.{Gives};
+ghost use Rattle.source_files.specs.Below.line_shape.Signs.{is_word};
 ghost use Rattle.source_files.specs.Below.line_shape.declared.items.ItemKind.TheVariants.{Define};
 ghost use Rattle.source_files.specs.Below.line_shape.Items.{line_kind};
 ghost use Rattle.macro_expand.specs.Below.macro_body.declared.definitions.Definition.{Definition as Macro};
@@ -10,7 +11,7 @@ ghost use Rattle.macro_expand.specs.Below.macro_body.Defining.{defined_by};
 ghost use Rattle.source_files.specs.Files.{Table, SourceFile};
 ghost use Rattle.unit_steps.specs.Names.{linked_with, parameter_named, definition_links};
 ghost use Rattle.unit_steps.specs.Conditions.{is_macro, test_notes};
-ghost use Rattle.unit_steps.specs.Directives.{operand_in, define_notes, define_of, undef_of, asks_name, opens_with};
+ghost use Rattle.unit_steps.specs.Directives.{operand_in, define_notes, define_of, undef_of, asks_name, opens_with, goes_with_line, goes_with, says_once, said_once, pragma_of, may_define};
 ghost use Rattle.source_files.specs.Answers.{fault_of, IsNoReadFault};
 ghost use Rattle.unit_steps.specs.Keeping.{noted_in, kept_after, put_after};
 ghost use Rattle.unit_steps.specs.SourceTexts.{source_in};
@@ -23,8 +24,8 @@ use crate::progress::{Progress, link_name};
 use crate::source_text::SourceText;
 use crate::unit_text::UnitText;
 use cs_base::{Cause, Memory, Pos, Tok};
-use macro_expand::{Definition, is_name};
-use source_files::{ItemKind, PreFault};
+use macro_expand::{Definition, is_name, is_word};
+use source_files::{GnuLine, ItemKind, PreFault};
 use std::alloc::Global;
 
 // The link of a token of a replacement list with the parameter that it names.
@@ -67,6 +68,40 @@ fn operand_in(toks: &[Tok]) -> Option<&Tok>
     }
 }
 
+// Whether a unit of GNU C, or of another standard, has such a macro.
+fn may_define(gnu: bool, m: &Definition) -> bool
+    ensures { result ≡ may_define gnu m.now }
+{
+    if gnu {
+        !has_optional(m.body.as_slice())
+    } else {
+        !m.named
+    }
+}
+
+fn has_optional(body: &[Tok]) -> bool
+    ensures { result ≡ list_any (λ t. is_word (codes "__VA_OPT__") t) body.now }
+{
+    body.iter().any(|tok| is_word(tok, b"__VA_OPT__"))
+}
+
+// Whether a `pragma` line says that its file is read once.
+fn says_once(toks: &[Tok]) -> bool
+    ensures { result ≡ says_once toks.now }
+{
+    match operand_in(toks) {
+        Some(word) => is_word(word, b"once"),
+        None => false,
+    }
+}
+
+// The same of a line in a unit of GNU C or of another standard, where it says nothing.
+fn is_once_line(gnu: bool, toks: &[Tok]) -> bool
+    ensures { result ≡ (gnu && says_once toks.now) }
+{
+    gnu && says_once(toks)
+}
+
 /// The tokens behind the `#` and the word of a line.
 pub fn behind_word(toks: &[Tok]) -> &[Tok]
     ensures { result.now ≡ drop 2 toks.now }
@@ -89,16 +124,26 @@ impl Progress {
         Ok(())
     }
 
-    /// A `define` line.
-    pub fn define(&mut self, toks: &[Tok]) -> Result<(), PreFault>
+    /// A `define` line whose `#` is there, in a unit of GNU C or of another standard.
+    pub fn define(
+        &mut self,
+        gnu: bool,
+        file: &SourceText,
+        at: Pos,
+        toks: &[Tok],
+    ) -> Result<(), PreFault>
         requires defines { line_kind toks.now ≡ Define }
         requires traced { (m : Macro) → defined_by toks.now ≡ Some m → IsTrue (list_all is_traced m.body) }
         requires able { IsAble self.old }
         ensures goes_on { GoesOn self.old self.new result }
         ensures no_read { IfErr result IsNoReadFault }
-        ensures answer { (table : Table) (file : SourceFile) (at : Pos) → Gives (λ _. (state_in table self.new, self.new.text)) fault_of result (put_after self.old.text (define_of file at toks.now (state_in table self.old))) }
+        ensures answer { (table : Table) → Gives (λ _. (state_in table self.new, self.new.text)) fault_of result (put_after self.old.text (define_of gnu (source_in file.now) at toks.now (state_in table self.old))) }
     {
-        let m = Definition::of(self.alloc, toks)?;
+        let mut m = Definition::of(self.alloc, toks)?;
+        if !may_define(gnu, &m) {
+            return Err(file.fault(self.alloc, at, Cause::BadDirective));
+        }
+        m.gnu = gnu;
         self.note_define(&m)?;
         self.macros.define(m)?;
         Ok(())
@@ -174,6 +219,77 @@ impl Progress {
             ItemKind::Ifdef => self.asks_name(file, at, false, toks),
             ItemKind::Ifndef => self.asks_name(file, at, true, toks),
             _ => Err(file.fault(self.alloc, at, Cause::BadDirective)),
+        }
+    }
+
+    // The same of a line that goes on with a section, which GNU C alone has.
+    fn goes_with_line(
+        &mut self,
+        file: &SourceText,
+        line: GnuLine,
+        at: Pos,
+        toks: &[Tok],
+    ) -> Result<bool, PreFault>
+        requires able { IsAble self.old }
+        ensures goes_on { GoesOn self.old self.new result }
+        ensures no_read { IfErr result IsNoReadFault }
+        ensures answer { (table : Table) → Gives (λ b. (b, state_in table self.new, self.new.text)) fault_of result (kept_after self.old.text (goes_with_line line (source_in file.now) at toks.now (state_in table self.old))) }
+    {
+        match line {
+            GnuLine::Elifdef => self.asks_name(file, at, false, toks),
+            GnuLine::Elifndef => self.asks_name(file, at, true, toks),
+            _ => Err(file.fault(self.alloc, at, Cause::BadDirective)),
+        }
+    }
+
+    /// Whether the next group of a section is processed where none was yet, by the line of this kind that goes on with it.
+    pub fn goes_with(
+        &mut self,
+        file: &SourceText,
+        kind: ItemKind,
+        at: Pos,
+        toks: &[Tok],
+    ) -> Result<bool, PreFault>
+        requires sound { IsTrue (list_all (λ t. is_traced t && is_low t) toks.now) }
+        requires able { IsAble self.old }
+        ensures goes_on { GoesOn self.old self.new result }
+        ensures no_read { IfErr result IsNoReadFault }
+        ensures answer { (table : Table) → Gives (λ b. (b, state_in table self.new, self.new.text)) fault_of result (kept_after self.old.text (goes_with kind (source_in file.now) at toks.now (state_in table self.old))) }
+    {
+        match kind {
+            ItemKind::Gnu(line) => self.goes_with_line(file, line, at, toks),
+            _ => self.holds(file, at, behind_word(toks)),
+        }
+    }
+
+    // A line whose `#` is there says that its file is read once.
+    fn say_once(&mut self, at: Pos, file: u32) -> Result<(), Memory>
+        requires able { IsAble self.old }
+        ensures goes_on { GoesOn self.old self.new result }
+        ensures answer { (table : Table) (source : SourceFile) → source.number ≡ file → OnOk result (put_after self.old.text (said_once source at (state_in table self.old)) ≡ Ok (state_in table self.new, self.new.text)) }
+    {
+        let before = self.text.before();
+        self.text.note_file(EventKind::Once, at, file, before)?;
+        self.once.push(file)?;
+        Ok(())
+    }
+
+    /// A `pragma` line whose `#` is there, in a unit of GNU C or of another standard.
+    pub fn pragma(
+        &mut self,
+        gnu: bool,
+        file: &SourceText,
+        at: Pos,
+        toks: &[Tok],
+    ) -> Result<(), Memory>
+        requires able { IsAble self.old }
+        ensures goes_on { GoesOn self.old self.new result }
+        ensures answer { (table : Table) → OnOk result (put_after self.old.text (pragma_of gnu (source_in file.now) at toks.now (state_in table self.old)) ≡ Ok (state_in table self.new, self.new.text)) }
+    {
+        if is_once_line(gnu, toks) {
+            self.say_once(at, file.number)
+        } else {
+            Ok(())
         }
     }
 }

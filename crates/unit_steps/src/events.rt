@@ -18,12 +18,16 @@ pub enum EventKind {
     Enter,
     /// They end.
     Leave,
+    /// A line says that its file is read once.
+    Once,
+    /// The items of an included file are passed over, since it is read once.
+    Passed,
 }
 
-/// An event: its name, which `Enter` and `Leave` alone have none of; where it stands, which is the `#`
-/// of the include line for these two; of a replaced name, the position of the name in its macro's
-/// definition, if it has one; of these two, the number of the included file; and how many tokens of
-/// the unit were put out before.
+/// An event: its name, which `Enter`, `Leave`, `Once` and `Passed` alone have none of; where it stands,
+/// which is the `#` of the line for these four; of a replaced name, the position of the name in its
+/// macro's definition, if it has one; of these four, the number of the file; and how many tokens of the
+/// unit were put out before.
 #[derive(Drop)]
 pub struct Event {
     pub kind: EventKind,

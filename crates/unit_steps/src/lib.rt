@@ -23,6 +23,7 @@ mod visits;
 pub use directives::behind_word;
 pub use events::{Event, EventKind, Reached};
 pub use first_names::FirstNames;
+pub use macro_expand::{push_shared, shared};
 pub use progress::Progress;
 pub use source_text::SourceText;
 pub use unit_text::UnitText;

@@ -24,7 +24,8 @@ use std::alloc::Global;
 const MOST_RUN: usize = 1 << 31;
 
 /// The macros that are defined, the work that is left, the first names of each spelling, how many tokens
-/// the unit may have, and its text so far.
+/// the unit may have, its text so far, where a search for the next file of the present one's name begins, and the
+/// numbers of the files that are read once.
 #[derive(Drop)]
 pub struct Progress {
     pub alloc: Global,
@@ -33,6 +34,8 @@ pub struct Progress {
     pub names: FirstNames,
     pub most: u32,
     pub text: UnitText,
+    pub behind: Option<u32>,
+    pub once: Vec<u32>,
 }
 
 // The link of a name with the one of its spelling, if there is one.

@@ -55,3 +55,5 @@ few_open kind.Defined inner now at = stays inner now at
 few_open kind.Undefined inner now at = stays inner now at
 few_open kind.Tested inner now at = stays inner now at
 few_open kind.Left inner now at = stays inner now at
+few_open kind.Once inner now at = stays inner now at
+few_open kind.Passed inner now at = stays inner now at

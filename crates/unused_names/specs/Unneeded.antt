@@ -22,24 +22,34 @@ pub record Occurs (text : UnitTextValue) (names : List Name) (entity j : ℕ) : 
   pub within : j < length text.toks
   pub bound : entity_at names j ≡ Some entity
 
--- a line gives a macro name a meaning or takes it away (6.10.3, 6.10.3.5)
+-- a line gives a macro name a meaning or takes it away (6.10.3, 6.10.3.5), or says that its file is read once
 abbrev pub gives_meaning : EventKind → Bool
 gives_meaning kind.Defined = true
 gives_meaning kind.Undefined = true
+gives_meaning kind.Once = true
 gives_meaning _ = false
 
--- a name is asked for: a macro replaces it, a directive tests it, or a condition has it left over (6.10.1)
+-- a name is asked for: a macro replaces it, a directive tests it, or a condition has it left over (6.10.1); or a file is
+-- passed over, of which it was said that it is read once
 abbrev pub asks_meaning : EventKind → Bool
 asks_meaning kind.Replaced = true
 asks_meaning kind.Tested = true
 asks_meaning kind.Left = true
+asks_meaning kind.Passed = true
 asks_meaning _ = false
 
--- the spelling of the name of an event
+-- the spelling of the name of an event, and the number of its file, if it has one
 abbrev pub name_of : Event → List ℕ
 name_of e = option_map_or (λ (t : Token). t.text) e.name []
 
--- event i of a unit gives a name a meaning that event j asks for
+abbrev pub file_of : Event → ℕ
+file_of e = option_map_or (λ (n : ℕ). n) e.file 0
+
+-- what an event is of: a name, which has no number of a file, or a file, which has no name
+abbrev pub subject_of : Event → ℕ × List ℕ
+subject_of e = (file_of e, name_of e)
+
+-- event i of a unit gives a name or a file a meaning that event j asks for
 pub record Means (events : List Event) (i j : ℕ) : Type 0 where
   pub giving : Event
   pub given : slice_get events i ≡ Some giving
@@ -47,12 +57,13 @@ pub record Means (events : List Event) (i j : ℕ) : Type 0 where
   pub asking : Event
   pub asked : slice_get events j ≡ Some asking
   pub asks : asks_meaning asking.kind ≡ true
-  pub same : name_of giving ≡ name_of asking
+  pub same : subject_of giving ≡ subject_of asking
 
 -- ---- inclusions
 
 -- What the inclusion brings that event k begins is not used outside it: an entity that has an occurrence inside has
--- all of them there, and no name is asked for behind it that a line inside gives a meaning or takes it away.
+-- all of them there, no name is asked for behind it that a line inside gives a meaning or takes it away, and no file is passed
+-- over behind it of which a line inside says that it is read once.
 pub record IsUnneeded (text : UnitTextValue) (names : List Name) (k : ℕ) : Type 0 where
   pub entities : (entity i j : ℕ) → Occurs text names entity i → Occurs text names entity j → Brings text k i → Brings text k j
   pub macros : (i j : ℕ) → k < i → i < end_of text.events k → end_of text.events k ≤ j → Means text.events i j → ⊥

@@ -1,29 +1,29 @@
 // Where names of macros are asked for last.
 ghost use Rattle.std.specs.Prelude.{◌≡◌, ◌≤◌, ◌<◌, ◌+◌, ℕ, List, None, IfOk, OnOk, MatchBool, length};
 ghost use Rattle.unused_names.specs.LastUses.{last_at, AreLast, MeansBehind};
-ghost use Rattle.unused_names.specs.Unneeded.{asks_meaning, gives_meaning, name_of};
+ghost use Rattle.unused_names.specs.Unneeded.{asks_meaning, gives_meaning, name_of, file_of, subject_of};
 
 use analysis::{Event, EventKind};
 use cs_base::Memory;
 use indexmap::IndexMap;
 use std::alloc::Global;
 
-/// Whether a line gives a name a meaning or takes it away.
+/// Whether a line gives a name a meaning or takes it away, or says that its file is read once.
 pub fn gives_meaning(kind: EventKind) -> bool
     ensures { result ≡ gives_meaning kind }
 {
     match kind {
-        EventKind::Defined | EventKind::Undefined => true,
+        EventKind::Defined | EventKind::Undefined | EventKind::Once => true,
         _ => false,
     }
 }
 
-// Whether a name is asked for.
+// Whether a name is asked for, or a file is passed over.
 fn asks_meaning(kind: EventKind) -> bool
     ensures { result ≡ asks_meaning kind }
 {
     match kind {
-        EventKind::Replaced | EventKind::Tested | EventKind::Left => true,
+        EventKind::Replaced | EventKind::Tested | EventKind::Left | EventKind::Passed => true,
         _ => false,
     }
 }
@@ -38,15 +38,32 @@ pub fn name_of(event: &Event) -> &[u8]
     }
 }
 
-/// For a spelling the number of the last event that asks for it. The keys are lent by the events.
+// The number of the file of an event, if it has one.
+fn file_of(event: &Event) -> u32
+    ensures { result ≡ file_of event.now }
+{
+    match event.file {
+        Some(number) => number,
+        None => 0,
+    }
+}
+
+// What an event is of: a name or a file.
+fn subject_of(event: &Event) -> (u32, &[u8])
+    ensures { (result.0, result.1.now) ≡ subject_of event.now }
+{
+    (file_of(event), name_of(event))
+}
+
+/// For a name or a file the number of the last event that asks for it. The names are lent by the events.
 #[derive(Drop)]
 pub(crate) struct LastUses<'a> {
-    numbers: IndexMap<&'a [u8], usize>,
+    numbers: IndexMap<(u32, &'a [u8]), usize>,
 }
 
 impl<'a> LastUses<'a> {
     fn new(alloc: Global) -> LastUses<'a>
-        ensures { (text : List ℕ) → last_at result.numbers text ≡ None }
+        ensures { (subject : ℕ × List ℕ) → last_at result.numbers subject ≡ None }
     {
         LastUses {
             numbers: IndexMap::new(alloc),
@@ -63,7 +80,7 @@ impl<'a> LastUses<'a> {
         if !asks_meaning(event.kind) {
             return Ok(());
         }
-        self.numbers.insert(name_of(event), k)?;
+        self.numbers.insert(subject_of(event), k)?;
         Ok(())
     }
 
@@ -78,10 +95,10 @@ impl<'a> LastUses<'a> {
         Ok(uses)
     }
 
-    fn last(&self, text: &'a [u8]) -> Option<usize>
-        ensures { result ≡ last_at self.now.numbers text.now }
+    fn last(&self, subject: (u32, &'a [u8])) -> Option<usize>
+        ensures { result ≡ last_at self.now.numbers (subject.entry.0, subject.entry.1.now) }
     {
-        self.numbers.get(&text).copied()
+        self.numbers.get(&subject).copied()
     }
 }
 
@@ -95,7 +112,7 @@ fn means_behind(events: &[Event], uses: &LastUses<'_>, i: usize, end: usize) -> 
     if !gives_meaning(event.kind) {
         return false;
     }
-    let Some(last) = uses.last(name_of(event)) else {
+    let Some(last) = uses.last(subject_of(event)) else {
         return false;
     };
     if last < end {

@@ -4,11 +4,12 @@ ghost use Rattle.std.specs.Str.{bytes_eq};
 ghost use Rattle.analysis.specs.Parts.{IsFirst, IsPart};
 ghost use Rattle.class_marks.specs.Marks.{AreMarked};
 ghost use Rattle.class_marks.specs.Roles.{names_with};
+ghost use Rattle.class_marks.specs.Touching.{AreReadOnly};
 ghost use Rattle.unused_names.specs.Unused.{AreUnused, IsDeclaredAlone, IsUnused};
 ghost use Rattle.class_marks.specs.declared.roles.Role.TheVariants as role;
 
 use analysis::Analysis;
-use class_marks::{Role, has_read_only, is_marked, marks_of};
+use class_marks::{Role, has_read_only, is_marked, marks_of, read_only_files};
 use cs_base::{Memory, Part};
 use std::alloc::Global;
 
@@ -33,17 +34,19 @@ fn is_main(name: &[u8]) -> bool
     name == b"main".as_slice()
 }
 
-/// Whether the first member of a class is one that is declared and not used, by the marks of both roles.
-pub fn is_unused(a: &Analysis, declared: &[bool], used: &[bool], part: Part) -> bool
+/// Whether the first member of a class is one that is declared and not used, by the marks of both roles and the files that are
+/// read-only.
+pub fn is_unused(a: &Analysis, declared: &[bool], used: &[bool], files: &[bool], part: Part) -> bool
     requires first { IsFirst a.now.value part }
     requires declared { AreMarked a.now.classes (names_with role.Declares a.now.value) declared.now }
     requires used { AreMarked a.now.classes (names_with role.Uses a.now.value) used.now }
+    requires files { AreReadOnly a.now.value files.now }
     ensures { MatchBool result (IsUnused a.now.value part) (IsUnused a.now.value part → ⊥) }
 {
     if !is_declared_alone(a, declared, used, part) {
         return false;
     }
-    if has_read_only(a, part) {
+    if has_read_only(a, files, part) {
         return false;
     }
     let is_main = is_main(a.spelling(part));
@@ -56,15 +59,17 @@ fn chosen(
     a: &Analysis,
     declared: &[bool],
     used: &[bool],
+    files: &[bool],
 ) -> Result<Vec<Part>, Memory>
     requires declared { AreMarked a.now.classes (names_with role.Declares a.now.value) declared.now }
     requires used { AreMarked a.now.classes (names_with role.Uses a.now.value) used.now }
+    requires files { AreReadOnly a.now.value files.now }
     ensures { IfOk result (λ parts. AreUnused a.now.value parts.items) }
 {
     let firsts = a.firsts();
     let mut parts = Vec::new(alloc);
     for part in firsts {
-        if is_unused(a, declared, used, *part) {
+        if is_unused(a, declared, used, files, *part) {
             parts.push(*part)?;
         }
     }
@@ -77,5 +82,6 @@ pub fn unused(alloc: Global, a: &Analysis) -> Result<Vec<Part>, Memory>
 {
     let declared = marks_of(alloc, a, Role::Declares)?;
     let used = marks_of(alloc, a, Role::Uses)?;
-    chosen(alloc, a, &declared, &used)
+    let files = read_only_files(alloc, a)?;
+    chosen(alloc, a, &declared, &used, &files)
 }

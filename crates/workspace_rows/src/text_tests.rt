@@ -82,6 +82,8 @@ fn sign(kind: EventKind) -> &'static str {
         EventKind::Left => "l",
         EventKind::Enter => "in",
         EventKind::Leave => "out",
+        EventKind::Once => "once",
+        EventKind::Passed => "passed",
     }
 }
 

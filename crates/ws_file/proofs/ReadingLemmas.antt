@@ -1,5 +1,5 @@
 -- What stays true of a reading as lines are taken.
-use Rattle.std.proofs.Common.{◌≡◌, ℕ, Bool, true, false, not, ◌||◌, ◌==◌, List, [], ◌∷◌, ◌++◌, IsTrue, refl, ap, ◌∙◌, arith}
+use Rattle.std.proofs.Common.{◌≡◌, ℕ, Bool, true, false, not, ◌||◌, ◌==◌, List, [], ◌∷◌, ◌++◌, IsTrue, refl, ◌∙◌, arith}
 use Rattle.std.specs.Prelude.{codes}
 use Rattle.std.specs.List.{list_all}
 use Rattle.std.specs.Str.{bytes_eq}
@@ -10,7 +10,6 @@ use Rattle.cs_base.specs.Paths.{normal_path_of, is_normal}
 use Rattle.cs_base.specs.Units.{UnitValue, unit, IsUnit, quote, less_sign, begins_with, has_bad_ends, is_writable, is_project, is_directory, is_unit_path, is_include, defines_fit}
 use Rattle.cs_base.proofs.NormalPaths.{is_normal-normal_path_of}
 use Rattle.cs_base.proofs.UnitLemmas.{is_utf8-ascii, is_writable-normal_path_of}
-use Rattle.ws_file.specs.Workspace.{is_said}
 use Rattle.ws_file.specs.Reading.{Reading, at_first, is_bad_path, is_bad_include}
 use Rattle.ws_file.specs.Taking.{IsReading}
 
@@ -29,9 +28,7 @@ IsReading-first = record {
   are_settings = refl;
   are_includes = refl;
   are_units = λ k d h. absurd (omega arith);
-  are_said = refl;
   are_prefixes = refl;
-  is_said_too = refl;
 }
 
 pub is_directory-normal : (path : List ℕ) → IsTrue (is_writable path) → has_bad_ends (normal_path_of path) ≡ false
@@ -69,9 +66,7 @@ IsReading-directory r directory k h = record {
   are_settings = k.are_settings;
   are_includes = k.are_includes;
   are_units = k.are_units;
-  are_said = k.are_said;
   are_prefixes = k.are_prefixes;
-  is_said_too = k.is_said_too;
 }
 
 pub IsReading-quoted : (r : Reading) (directory : List ℕ) → IsReading r → IsTrue (is_directory directory)
@@ -83,9 +78,7 @@ IsReading-quoted r directory k h = record {
   are_settings = k.are_settings;
   are_includes = k.are_includes;
   are_units = k.are_units;
-  are_said = k.are_said;
   are_prefixes = k.are_prefixes;
-  is_said_too = k.is_said_too;
 }
 
 pub IsReading-include : (r : Reading) (path : List ℕ) → IsReading r → IsTrue (is_include path)
@@ -97,23 +90,19 @@ IsReading-include r path k h = record {
   are_settings = k.are_settings;
   are_includes = list_all-push is_include r.includes path k.are_includes h;
   are_units = k.are_units;
-  are_said = k.are_said;
   are_prefixes = k.are_prefixes;
-  is_said_too = k.is_said_too;
 }
 
-pub IsReading-unit : (r : Reading) (u : UnitValue) → IsReading r → IsUnit u → u.standard ≡ r.standard
+pub IsReading-unit : (r : Reading) (u : UnitValue) → IsReading r → IsUnit u
     → IsReading (record r { units = r.units ++ u ∷ [] })
-IsReading-unit r u k h same = record {
+IsReading-unit r u k h = record {
   is_named = k.is_named;
   are_quoted_directories = k.are_quoted_directories;
   are_directories = k.are_directories;
   are_settings = k.are_settings;
   are_includes = k.are_includes;
   are_units = All-append IsUnit r.units (u ∷ []) k.are_units (λ i d below. let first : i ≡ 0 = omega arith in rw first h);
-  are_said = list_all-push (λ (v : UnitValue). is_said v.standard) r.units u k.are_said (ap is_said same ∙ k.is_said_too);
   are_prefixes = k.are_prefixes;
-  is_said_too = k.is_said_too;
 }
 
 -- the unit of this path that has what is in force

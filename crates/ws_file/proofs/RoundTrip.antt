@@ -17,7 +17,7 @@ use Rattle.cs_base.specs.Units.{UnitValue, IsUnit, line_feed, backslash, quote, 
 use Rattle.cs_base.proofs.PathLaws.{list_all-reverse}
 use Rattle.cs_base.proofs.UnitLemmas.{is_utf8-ascii}
 use Rattle.cs_base.specs.Limits.{most_units}
-use Rattle.ws_file.specs.Workspace.{WorkspaceValue, workspace, IsWorkspace, is_prefix, is_said}
+use Rattle.ws_file.specs.Workspace.{WorkspaceValue, workspace, IsWorkspace, is_prefix}
 use Rattle.ws_file.specs.Lines.{lines_of, line_word}
 use Rattle.ws_file.specs.Reading.{Reading, reading, project_begun, at_first, of_standard, is_bad_path, with_word, read_lines, workspace_of}
 use Rattle.ws_file.specs.Printing.{readonly_line, project_line, standard_lines, qpath_line, ipath_line, define_line, included_line, file_line, unit_lines, lines_text, workspace_lines, workspace_text}
@@ -100,6 +100,14 @@ is_writable-here = rw (is_utf8-ascii (codes ".") refl) refl
 is_writable-c11 : is_writable (codes "c11") ≡ true
 unfolding is_writable
 is_writable-c11 = rw (is_utf8-ascii (codes "c11") refl) refl
+
+is_writable-gnu99 : is_writable (codes "gnu99") ≡ true
+unfolding is_writable
+is_writable-gnu99 = rw (is_utf8-ascii (codes "gnu99") refl) refl
+
+is_writable-gnu11 : is_writable (codes "gnu11") ≡ true
+unfolding is_writable
+is_writable-gnu11 = rw (is_utf8-ascii (codes "gnu11") refl) refl
 
 Leads-quoted : (directory : List ℕ) (r : Reading) → is_directory directory ≡ true → length r.units ≤ most_units
     → Leads (qpath_line directory ∷ []) r (record r { qpath = r.qpath ++ directory ∷ [] })
@@ -219,23 +227,25 @@ Leads-includes (path ∷ includes) r h few =
     (Leads-append (included_line path ∷ []) (map included_line includes) r next _ (Leads-include path r ((and_parts _ _ h).0) few)
     (Leads-includes includes next ((and_parts _ _ h).1) few))
 
-Leads-standard : (s : Standard) (r : Reading) → is_said s ≡ true → length r.units ≤ most_units
+Leads-standard : (s : Standard) (r : Reading) → length r.units ≤ most_units
     → Leads (standard_lines s) (of_standard C99 r) (of_standard s r)
 unfolding with_word line_word
-Leads-standard C99 r said few = Leads-nil (of_standard C99 r)
-Leads-standard C11 r said few =
+Leads-standard C99 r few = Leads-nil (of_standard C99 r)
+Leads-standard C11 r few =
     Leads-line_with (codes "standard") (codes "c11") (of_standard C99 r) _ refl (IsRest-writable (codes "c11") is_writable-c11 refl) refl few
-Leads-standard Gnu99 r said few = absurd (cc)
-Leads-standard Gnu11 r said few = absurd (cc)
+Leads-standard Gnu99 r few =
+    Leads-line_with (codes "standard") (codes "gnu99") (of_standard C99 r) _ refl (IsRest-writable (codes "gnu99") is_writable-gnu99 refl) refl few
+Leads-standard Gnu11 r few =
+    Leads-line_with (codes "standard") (codes "gnu11") (of_standard C99 r) _ refl (IsRest-writable (codes "gnu11") is_writable-gnu11 refl) refl few
 
 -- what is in force behind the lines of a unit
 abbrev behind_unit : UnitValue → Reading → Reading
 behind_unit u r = reading u.project u.qpath u.ipath u.settings u.includes (r.units ++ u ∷ []) r.readonly u.standard
 
-Leads-unit : (u : UnitValue) (r : Reading) → IsUnit u → is_said u.standard ≡ true → length r.units + 1 ≤ most_units
+Leads-unit : (u : UnitValue) (r : Reading) → IsUnit u → length r.units + 1 ≤ most_units
     → Leads (unit_lines u) r (behind_unit u r)
 unfolding unit_lines
-Leads-unit u r h said few =
+Leads-unit u r h few =
     let few' : length r.units ≤ most_units = omega arith in
     let named = project_begun u.project r.units r.readonly in
     let dated = record named { standard = u.standard } in
@@ -245,7 +255,7 @@ Leads-unit u r h said few =
     let held = record set { includes = u.includes } in
     let file = file_line u.path ∷ [] in
     Leads-append (project_line u.project ∷ []) _ r named _ (Leads-project u.project r h.is_named few')
-    (Leads-append (standard_lines u.standard) _ named dated _ (Leads-standard u.standard named said few')
+    (Leads-append (standard_lines u.standard) _ named dated _ (Leads-standard u.standard named few')
     (Leads-append (map qpath_line u.qpath) _ dated quoted _ (Leads-quoteds u.qpath dated h.are_quoted_directories few')
     (Leads-append (map ipath_line u.ipath) _ quoted placed _ (Leads-directories u.ipath quoted h.are_directories few')
     (Leads-append (map define_line u.settings) _ placed set _ (Leads-settings u.settings placed h.are_settings few')
@@ -259,18 +269,17 @@ record LeadsTo (lines : List (List ℕ)) (r : Reading) (units : List UnitValue) 
   has_units : last.units ≡ units
   has_readonly : last.readonly ≡ readonly
 
-LeadsTo-units : (units : List UnitValue) (r : Reading) → All IsUnit units → list_all (λ (u : UnitValue). is_said u.standard) units ≡ true → length r.units + length units ≤ most_units
+LeadsTo-units : (units : List UnitValue) (r : Reading) → All IsUnit units → length r.units + length units ≤ most_units
     → LeadsTo (flat_map unit_lines units) r (r.units ++ units) r.readonly
-LeadsTo-units [] r h said few = record { last = r; way = Leads-nil r; has_units = sym (append-nil r.units); has_readonly = refl }
-LeadsTo-units (u ∷ units) r h said few =
-    let parts = and_parts (is_said u.standard) (list_all (λ (u : UnitValue). is_said u.standard) units) said in
+LeadsTo-units [] r h few = record { last = r; way = Leads-nil r; has_units = sym (append-nil r.units); has_readonly = refl }
+LeadsTo-units (u ∷ units) r h few =
     let next = behind_unit u r in
     let one : length r.units + 1 ≤ most_units = omega arith in
     let left : length next.units + length units ≤ most_units = omega (arith, length-append r.units (u ∷ [])) in
-    let more = LeadsTo-units units next (λ k d below. h (suc k) d (omega arith)) parts.1 left in
+    let more = LeadsTo-units units next (λ k d below. h (suc k) d (omega arith)) left in
     record {
       last = more.last;
-      way = Leads-append (unit_lines u) (flat_map unit_lines units) r next more.last (Leads-unit u r (h 0 u (omega arith)) parts.0 one) more.way;
+      way = Leads-append (unit_lines u) (flat_map unit_lines units) r next more.last (Leads-unit u r (h 0 u (omega arith)) one) more.way;
       has_units = more.has_units ∙ append_assoc r.units (u ∷ []) units;
       has_readonly = more.has_readonly;
     }
@@ -281,7 +290,7 @@ LeadsTo-workspace ws h =
     let none : length at_first.units ≤ most_units = omega arith in
     let protected = project_begun at_first.project [] ws.readonly in
     let few : length protected.units + length ws.units ≤ most_units = omega (arith, h.are_few) in
-    let units = LeadsTo-units ws.units protected h.are_units h.are_said few in
+    let units = LeadsTo-units ws.units protected h.are_units few in
     record {
       last = units.last;
       way = Leads-append (map readonly_line ws.readonly) (flat_map unit_lines ws.units) at_first protected units.last

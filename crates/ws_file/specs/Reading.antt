@@ -5,7 +5,7 @@ use Rattle.std.specs.Str.{bytes_eq, is_utf8}
 use Rattle.cs_base.specs.declared.ws_units.Setting.{Setting}
 use Rattle.cs_base.specs.declared.ws_units.Setting.TheVariants as setting
 use Rattle.cs_base.specs.declared.ws_units.Standard.{Standard as Language}
-use Rattle.cs_base.specs.declared.ws_units.Standard.TheVariants.{C99, C11}
+use Rattle.cs_base.specs.declared.ws_units.Standard.TheVariants.{C99, C11, Gnu99, Gnu11}
 use Rattle.cs_base.specs.Paths.{normal_path_of}
 use Rattle.cs_base.specs.Units.{UnitValue, unit, backslash, quote, less_sign, is_blank, begins_with, ends_with, has_bad_ends, is_nondigit, is_identifier, defines_fit}
 use Rattle.cs_base.specs.Limits.{most_bytes, most_units}
@@ -56,11 +56,13 @@ with_project name r =
 abbrev pub of_standard : Language → Reading → Reading
 of_standard s r = record r { standard = s }
 
--- `standard c99` or `standard c11`; no line says yet that a unit is of GNU C
+-- `standard c99`, `standard c11`, `standard gnu99` or `standard gnu11`
 abbrev pub with_standard : List ℕ → Reading → Option Reading
 with_standard name r =
     if bytes_eq name (codes "c99") then Some (of_standard C99 r)
-    else (if bytes_eq name (codes "c11") then Some (of_standard C11 r) else None)
+    else (if bytes_eq name (codes "c11") then Some (of_standard C11 r)
+    else (if bytes_eq name (codes "gnu99") then Some (of_standard Gnu99 r)
+    else (if bytes_eq name (codes "gnu11") then Some (of_standard Gnu11 r) else None)))
 
 -- `qpath DIR`: a directory for quoted names alone
 abbrev pub with_quoted_directory : List ℕ → Reading → Option Reading

@@ -4,8 +4,8 @@ use Rattle.std.specs.List.{list_all}
 use Rattle.std.specs.Str.{is_utf8}
 use Rattle.cs_base.specs.declared.ws_units.Setting.{Setting}
 use Rattle.cs_base.specs.declared.ws_units.Standard.{Standard}
-use Rattle.cs_base.specs.Units.{UnitValue, IsUnit, line_feed, is_blank, begins_with, ends_with, is_gnu, is_project, is_directory, is_setting, is_include, setting_line, include_line}
-use Rattle.ws_file.specs.Workspace.{is_prefix, is_said}
+use Rattle.cs_base.specs.Units.{IsUnit, line_feed, is_blank, begins_with, ends_with, is_gnu, is_project, is_directory, is_setting, is_include, setting_line, include_line}
+use Rattle.ws_file.specs.Workspace.{is_prefix}
 use Rattle.ws_file.specs.Reading.{Reading}
 
 -- The line was taken, and this is the reading after it; or it is bad.
@@ -21,9 +21,7 @@ pub record IsReading (r : Reading) : Type 0 where
   pub are_settings : IsTrue (list_all is_setting r.settings)
   pub are_includes : IsTrue (list_all is_include r.includes)
   pub are_units : All IsUnit r.units
-  pub are_said : IsTrue (list_all (λ (u : UnitValue). is_said u.standard) r.units)
   pub are_prefixes : IsTrue (list_all is_prefix r.readonly)
-  pub is_said_too : IsTrue (is_said r.standard)
 
 abbrev pub is_no_feed : ℕ → Bool
 is_no_feed b = not (b == line_feed)

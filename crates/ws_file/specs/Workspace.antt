@@ -2,8 +2,7 @@
 use Rattle.std.specs.Prelude.{ℕ, Bool, not, ◌&&◌, ◌≤◌, List, [], IsTrue, length, All}
 use Rattle.std.specs.List.{list_all}
 use Rattle.std.specs.Str.{bytes_eq}
-use Rattle.cs_base.specs.declared.ws_units.Standard.{Standard}
-use Rattle.cs_base.specs.Units.{UnitValue, IsUnit, is_gnu, is_writable}
+use Rattle.cs_base.specs.Units.{UnitValue, IsUnit, is_writable}
 use Rattle.cs_base.specs.Limits.{most_units}
 
 -- A workspace: its units in order, numbered from 1, and the prefixes of read-only paths.
@@ -19,13 +18,8 @@ workspace units readonly = record { units = units; readonly = readonly }
 abbrev pub is_prefix : List ℕ → Bool
 is_prefix prefix = is_writable prefix && not (bytes_eq prefix [])
 
--- a standard that a workspace file can say: one of ISO/IEC 9899, and not yet GNU C
-abbrev pub is_said : Standard → Bool
-is_said standard = not (is_gnu standard)
-
 -- What is true of every workspace.
 pub record IsWorkspace (ws : WorkspaceValue) : Type 0 where
   pub are_few : length ws.units ≤ most_units
   pub are_units : All IsUnit ws.units
-  pub are_said : IsTrue (list_all (λ (u : UnitValue). is_said u.standard) ws.units)
   pub are_prefixes : IsTrue (list_all is_prefix ws.readonly)

@@ -105,7 +105,7 @@ impl Reader {
         Ok(true)
     }
 
-    // `standard c99` or `standard c11`.
+    // `standard c99`, `standard c11`, `standard gnu99` or `standard gnu11`.
     fn take_standard(&mut self, name: &[u8]) -> bool
         ensures { Takes (with_standard name.now self.old) result self.new }
     {
@@ -114,6 +114,12 @@ impl Reader {
             true
         } else if is_text(name, b"c11") {
             self.standard = Standard::C11;
+            true
+        } else if is_text(name, b"gnu99") {
+            self.standard = Standard::Gnu99;
+            true
+        } else if is_text(name, b"gnu11") {
+            self.standard = Standard::Gnu11;
             true
         } else {
             false

@@ -1,2 +1,1 @@
 standard gnu17
-file a.c

@@ -1,5 +1,5 @@
 use Rattle.std.proofs.Common.{ap, ◌∙◌}
-use Rattle.analysis.specs.Naming.{computed_name}
+use Rattle.analysis.specs.Naming.{computed_name, nameable_behind}
 use Rattle.analysis.proofs.NameableLemmas.{drop_range, named_first}
 use Rattle.analysis.proofs.nameable.nameable_range.Goals as goal
 
@@ -31,3 +31,8 @@ pub returns-in-Include-clause-answer : goal.returns-in-Include-clause-answer
 returns-in-Include-clause-answer c =
     rw c.in-Include.is
     (ap computed_name (drop_range 2 c.args.toks.now c.args.item.now.from c.args.item.now.to) ∙ c.computed_end.ensures.answer)
+
+pub returns-in-Gnu-clause-answer : goal.returns-in-Gnu-clause-answer
+returns-in-Gnu-clause-answer c =
+    rw c.in-Gnu.is
+    (ap (nameable_behind c.in-Gnu.line c.args.evaluated) (drop_range 2 c.args.toks.now c.args.item.now.from c.args.item.now.to) ∙ c.gnu_end.ensures.answer)

@@ -1,7 +1,7 @@
 use Rattle.std.proofs.Common.{◌≡◌, ◌≤◌, ◌<◌, ◌+◌, List, [], ◌∷◌, length, drop, sym, ◌∙◌, subst, arith, Some, None}
 use Rattle.cs_base.specs.declared.tokens.Link.{Link}
 use Rattle.eclass_map.specs.ClassTable.{Table}
-use Rattle.scope_bind.specs.Names.{entity_at}
+use Rattle.gnu_bind.specs.Below.scope_bind.Names.{entity_at}
 use Rattle.analysis.specs.Joins.{Awaits, AreKnown, link_of}
 use Rattle.analysis.specs.Links.{occurrence_links}
 use Rattle.analysis.proofs.FirstLemmas.{is_first, tell_skip, tell_more, stands_at, occurrences_skip, occurrences_more, occurrences_end}

@@ -2,14 +2,14 @@ use Rattle.std.proofs.Common.{arith}
 use Rattle.class_marks.proofs.ReadOnlyLemmas.{editable_more, none_read_only, read_only_member}
 use Rattle.class_marks.proofs.read_only.has_read_only.Goals as goal
 
-pub returns-then-read_only : goal.returns-then-read_only
-returns-then-read_only c =
+pub returns-then-is_read_only : goal.returns-then-is_read_only
+returns-then-is_read_only c =
     read_only_member c.args.a.now.value c.args.part c.members-members.result.now c.loop-member.member-index _ c.members-members.ensures
-    c.loop-member-test.true c.if-read_only.ensures
+    c.loop-member-test.true c.if-is_read_only.ensures
 
 pub loop-member-preserved : goal.loop-member-preserved
 loop-member-preserved c =
-    editable_more c.args.a.now.value c.members-members.result.now c.loop-member.member-index _ c.loop-member-test.true c.if-read_only.ensures
+    editable_more c.args.a.now.value c.members-members.result.now c.loop-member.member-index _ c.loop-member-test.true c.if-is_read_only.ensures
     c.loop-member.invariant
 
 pub returns : goal.returns

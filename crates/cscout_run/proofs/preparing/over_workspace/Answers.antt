@@ -13,6 +13,12 @@ returns-in-Skipped-clause-answer g c = rw c.in-Skipped.is c.skipped_over.ensures
 pub returns-in-Skipped-clause-planned : goal.returns-in-Skipped-clause-planned
 returns-in-Skipped-clause-planned g c = rw c.in-Skipped.is (if_told-ok (g.F.Files.told c.args.files.now).held c.skipped_over.result _ (λ fs ready. tt))
 
+pub returns-in-Check-clause-answer : goal.returns-in-Check-clause-answer
+returns-in-Check-clause-answer g c = rw c.in-Check.is c.check_over.ensures.answer
+
+pub returns-in-Check-clause-planned : goal.returns-in-Check-clause-planned
+returns-in-Check-clause-planned g c = rw c.in-Check.is (if_told-ok (g.F.Files.told c.args.files.now).held c.check_over.result _ (λ fs ready. tt))
+
 pub returns-in-Report-clause-answer : goal.returns-in-Report-clause-answer
 returns-in-Report-clause-answer g c = rw c.in-Report.is c.report_over.ensures.answer
 
@@ -24,6 +30,12 @@ returns-in-Edit-clause-answer g c = rw c.in-Edit.is c.edit_over.ensures.answer
 
 pub returns-in-Edit-clause-planned : goal.returns-in-Edit-clause-planned
 returns-in-Edit-clause-planned g c = rw c.in-Edit.is c.edit_over.ensures.planned
+
+pub returns-in-Trim-clause-answer : goal.returns-in-Trim-clause-answer
+returns-in-Trim-clause-answer g c = rw c.in-Trim.is c.trim_over.ensures.answer
+
+pub returns-in-Trim-clause-planned : goal.returns-in-Trim-clause-planned
+returns-in-Trim-clause-planned g c = rw c.in-Trim.is c.trim_over.ensures.planned
 
 pub returns-in-Batch-clause-answer : goal.returns-in-Batch-clause-answer
 returns-in-Batch-clause-answer g c = rw c.in-Batch.is c.batch_over.ensures.answer

@@ -10,6 +10,7 @@ use Rattle.command_words.specs.Asking.{request_value, workspace_file}
 use Rattle.cscout_run.specs.Answer.{IsAnswer}
 use Rattle.cscout_run.specs.Stopping.{line_of}
 use Rattle.cscout_run.specs.Outcome.{World, world, Tells, Unmoved, FailedWrite, Ends}
+use Rattle.cscout_run.proofs.AnswerLemmas.{answer-alike, answer-usage}
 use Rattle.cscout_run.proofs.RunLemmas.{ready-answer, stop-answer, failed_put, stop-not_done}
 use Rattle.cscout_run.proofs.EndLemmas.{usage-ends, stop-ends, put-ends, write-ends, done-ends}
 use Rattle.cscout_run.proofs.PromiseLemmas.{promise-told, refused-stopped, refused-told}
@@ -24,7 +25,7 @@ returns-in_default-clause-outcome g c =
     let now : World = world
     (g.F.Files.told c.args.files.now)
     (g.O.Sink.bytes c.args.out.now) (g.O.Sink.failed_writes c.args.out.now) (g.E.Sink.bytes c.tell.new.err) (g.E.Sink.failed_writes c.tell.new.err) in
-    usage-ends words before now (sym c.in_default.ensures) record { held = refl; out = refl } refl refl refl c.tell.ensures
+    usage-ends (IsAnswer words) before now (answer-alike words) (λ fs. answer-usage words fs (sym c.in_default.ensures)) record { held = refl; out = refl } refl refl refl c.tell.ensures
 
 pub returns-in-Err-clause-outcome : goal.returns-in-Err-clause-outcome
 returns-in-Err-clause-outcome g c =
@@ -42,7 +43,7 @@ returns-in-Err-clause-outcome g c =
     let unmoved : Unmoved before now = record { held = c.prepare.ensures.faults.held; out = refl } in
     let P : Status → Type 0 = λ s. Ends (IsAnswer words) before now s in
     subst P (sym c.tell_stop.ensures.status)
-    (stop-ends words ws c.in-Err.stop before now stops unmoved c.in-Err.ensures.faults.told c.prepare.ensures.faults.apart refl line)
+    (stop-ends (IsAnswer words) ws c.in-Err.stop before now (answer-alike words) stops unmoved c.in-Err.ensures.faults.told c.prepare.ensures.faults.apart refl line)
 
 pub returns-in-Failed-clause-outcome : goal.returns-in-Failed-clause-outcome
 returns-in-Failed-clause-outcome g c =
@@ -60,7 +61,7 @@ returns-in-Failed-clause-outcome g c =
     let failed = c.in-Failed.ensures.faults.failed c.in-Failed.written refl in
     let put = failed_put edits c.in-Failed.written before now (g.F.Files.told c.prepare.new.files).held (g.F.Files.told c.prepare.new.files).puts c.prepare.ensures.faults.held c.prepare.ensures.faults.apart c.in-Failed.ensures.held failed.0 failed.1 refl refl in
     let reads : now.reads ≡ before.reads = c.in-Failed.ensures.faults.reads_stay ∙ ap (λ (o : FilesTold). o.reads) c.in-Ok.ensures.faults.told in
-    put-ends words c.in-Ok.ready.refused text edits c.in-Failed.written c.path.result.now before now ready put reads c.path.ensures.answer c.tell-in-Failed.ensures
+    put-ends (IsAnswer words) c.in-Ok.ready.refused text edits c.in-Failed.written c.path.result.now before now (answer-alike words) ready put reads c.path.ensures.answer c.tell-in-Failed.ensures
 
 pub returns-in-Failed-write_text-clause-outcome : goal.returns-in-Failed-write_text-clause-outcome
 returns-in-Failed-write_text-clause-outcome g c =
@@ -81,7 +82,7 @@ returns-in-Failed-write_text-clause-outcome g c =
     let puts : now.puts ≡ before.puts = counts.0 ∙ c.prepare.ensures.faults.apart in
     let out : Writes text before.out now.out wrote.Failed = rw (← c.as_slice.ensures.value) c.in-Failed-write_text.ensures.bytes in
     let failed : FailedWrite edits text before now = record { held = held; out = out; puts = puts; rose = c.in-Failed-write_text.ensures.faults.rises refl } in
-    write-ends words c.in-Ok.ready.refused text edits before now ready failed reads c.tell-in-Failed-write_text.ensures
+    write-ends (IsAnswer words) c.in-Ok.ready.refused text edits before now (answer-alike words) ready failed reads c.tell-in-Failed-write_text.ensures
 
 pub returns-clause-outcome : goal.returns-clause-outcome
 returns-clause-outcome g c =
@@ -104,7 +105,7 @@ returns-clause-outcome g c =
     let outs : now.outs ≡ before.outs = c.in_default-write_text.ensures.faults.stays refl in
     let P : Status → Type 0 = λ s. Ends (IsAnswer words) before now s in
     subst P (sym c.ready_status.ensures)
-    (done-ends words c.in-Ok.ready.refused text edits before now ready record { held = held; out = out } reads puts outs refl)
+    (done-ends (IsAnswer words) c.in-Ok.ready.refused text edits before now (answer-alike words) ready record { held = held; out = out } reads puts outs refl)
 
 pub returns-in_default-clause-promise : goal.returns-in_default-clause-promise
 returns-in_default-clause-promise g c = λ done. absurd cc

@@ -2,7 +2,7 @@ use Rattle.std.proofs.Common.{sym, ap, ◌+◌, ◌∙◌, ◌++◌, arith}
 use Rattle.std.proofs.lemmas.List.{append-nil}
 use Rattle.std.proofs.lemmas.Result.{on_ok_weaker}
 use Rattle.c_types.specs.Children.{from_child}
-use Rattle.name_chains.specs.Frames.{state}
+use Rattle.scope_bind.specs.Below.name_chains.Frames.{state}
 use Rattle.c_types.specs.Lists.{calls_in, lists_in, bare_in}
 use Rattle.gnu_bind.specs.Walk.{walked}
 use Rattle.c_types.proofs.ChildWalks.{from_child-end}

@@ -1,7 +1,7 @@
 use Rattle.std.proofs.Common.{◌≡◌, ◌+◌, ◌*◌, ◌++◌}
 use Rattle.c99_tree.specs.Tree.{size_of}
 use Rattle.c_types.specs.Children.{from_child}
-use Rattle.name_chains.specs.Frames.{state}
+use Rattle.scope_bind.specs.Below.name_chains.Frames.{state}
 use Rattle.c_types.specs.Lists.{calls_in, lists_in, bare_in}
 use Rattle.gnu_bind.specs.Walk.{walked}
 use Rattle.gnu_bind.proofs.walking.+walk.Given as goal

@@ -3,4 +3,4 @@ use Rattle.include_tree.proofs.including.asked_by.Goals as goal
 
 pub returns-clause-can : goal.returns-clause-can
 returns-clause-can c =
-    rw c.in_ok-candidates_of.ensures (list_all-candidates c.args.header.now c.source_of-source.result.path.now c.args.unit.now)
+    rw c.in_ok-candidates_of.ensures (list_all-candidates c.args.next c.args.header.now c.args.behind c.source_of-source.result.path.now c.args.unit.now)

@@ -9,11 +9,11 @@ use Rattle.include_tree.proofs.section_lines.asked_group.Goals as goal
 
 pub returns-in-Ok-clause-answer : goal.returns-in-Ok-clause-answer
 returns-in-Ok-clause-answer c = λ table open_ around.
-    asked-step (source_in c.args.file.now) c.args.k (item_in c.args.item.now) open_ around table c.args.p.now c.reach.new.self c.behind_word.result.now c.behind_word.ensures
-    c.in_ok-reach.ensures.noted c.in-Ok.holds (state_in table c.holds.new.self) c.holds.new.self.text (c.in-Ok.ensures.answer table)
-    ∙ ap (λ (g : Group). Ok (section open_.opening g false ∷ around, state_in table c.holds.new.self, c.holds.new.self.text)) (sym c.group_if.ensures)
+    asked-step (source_in c.args.file.now) c.args.k (item_in c.args.item.now) open_ around table c.args.p.now c.reach.new.self
+    c.in_ok-reach.ensures.noted c.in-Ok.holds (state_in table c.goes_with.new.self) c.goes_with.new.self.text (c.in-Ok.ensures.answer table)
+    ∙ ap (λ (g : Group). Ok (section open_.opening g false ∷ around, state_in table c.goes_with.new.self, c.goes_with.new.self.text)) (sym c.group_if.ensures)
 
 pub returns-in-Err-clause-answer : goal.returns-in-Err-clause-answer
 returns-in-Err-clause-answer c = λ table open_ around.
-    asked-step_fault (source_in c.args.file.now) c.args.k (item_in c.args.item.now) open_ around table c.args.p.now c.reach.new.self c.behind_word.result.now c.behind_word.ensures
+    asked-step_fault (source_in c.args.file.now) c.args.k (item_in c.args.item.now) open_ around table c.args.p.now c.reach.new.self
     c.in_ok-reach.ensures.noted (fault_of c.in-Err.fault) (c.in-Err.ensures.answer table)

@@ -2,7 +2,7 @@ use Rattle.std.proofs.Common.{◌≡◌, Some, subst, ◌∙◌, refl}
 use Rattle.std.specs.Option.{option_map}
 use Rattle.include_tree.specs.Below.source_files.KeptFiles.{kept_at}
 use Rattle.kept_analysis.specs.Edits.{IsNew, edited_one}
-use Rattle.kept_analysis.specs.Moves.{editing_by}
+use Rattle.offences.specs.Moves.{editing_by}
 use Rattle.include_tree.specs.Below.source_files.Edited.{edited}
 use Rattle.kept_analysis.proofs.EditLemmas.{on_ok, one_edited, one_stays}
 use Rattle.kept_analysis.proofs.renamed_files.edit_numbered.Goals as goal

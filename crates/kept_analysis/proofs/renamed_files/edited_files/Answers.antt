@@ -1,5 +1,5 @@
 use Rattle.std.proofs.Common.{arith}
-use Rattle.kept_analysis.specs.Moves.{editing_by}
+use Rattle.offences.specs.Moves.{editing_by}
 use Rattle.kept_analysis.proofs.EditLemmas.{front_none, front_more, front_end}
 use Rattle.kept_analysis.proofs.renamed_files.edited_files.Goals as goal
 

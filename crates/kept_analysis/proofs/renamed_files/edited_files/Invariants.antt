@@ -1,6 +1,6 @@
 use Rattle.std.proofs.Common.{◌≡◌}
 use Rattle.kept_analysis.specs.Edits.{edited_front}
-use Rattle.kept_analysis.specs.Moves.{editing_by}
+use Rattle.offences.specs.Moves.{editing_by}
 use Rattle.kept_analysis.proofs.renamed_files.edited_files.Given as goal
 
 abbrev pub invariant-loop-number : goal.invariant-loop-number

@@ -1,7 +1,7 @@
 use Rattle.std.proofs.Common.{ℕ, List, refl, sym, ap, ◌∙◌}
 use Rattle.analysis.specs.Below.lexer.Places.{pos}
 use Rattle.kept_analysis.specs.Edits.{stands_at}
-use Rattle.kept_analysis.specs.Moves.{put_by}
+use Rattle.offences.specs.Moves.{put_by}
 use Rattle.kept_analysis.proofs.ByteLemmas.{editing_is, made_none, made_end, made_character, made_other}
 use Rattle.kept_analysis.proofs.renamed_files.respelled.Goals as goal
 use Rattle.kept_analysis.proofs.renamed_files.respelled.Goals.{then-stands_at+in_ok-push_put, else-stands_at+in_ok-push}

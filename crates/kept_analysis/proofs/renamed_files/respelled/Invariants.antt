@@ -1,6 +1,6 @@
 use Rattle.analysis.specs.Below.lexer.Places.{pos}
 use Rattle.kept_analysis.specs.Edits.{IsMade}
-use Rattle.kept_analysis.specs.Moves.{put_by}
+use Rattle.offences.specs.Moves.{put_by}
 use Rattle.kept_analysis.proofs.renamed_files.respelled.Given as goal
 
 abbrev pub invariant-loop-offset : goal.invariant-loop-offset

@@ -1,6 +1,6 @@
 use Rattle.std.proofs.Common.{◌≡◌, map, take}
 use Rattle.analysis.specs.Changed.{renamed_event}
-use Rattle.kept_analysis.specs.Moves.{renaming_by}
+use Rattle.offences.specs.Moves.{renaming_by}
 use Rattle.kept_analysis.proofs.renamed_texts.renamed_events.Given as goal
 
 abbrev pub invariant-loop-event : goal.invariant-loop-event

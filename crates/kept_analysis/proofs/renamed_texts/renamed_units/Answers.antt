@@ -2,7 +2,7 @@ use Rattle.std.proofs.Common.{◌≡◌, suc, List, [], ◌∷◌, ◌++◌, map
 use Rattle.std.proofs.lemmas.List.{map-append}
 use Rattle.analysis.specs.Analysis.{UnitAnalysis}
 use Rattle.analysis.specs.Changed.{renamed_unit_analysis}
-use Rattle.kept_analysis.specs.Moves.{renaming_by}
+use Rattle.offences.specs.Moves.{renaming_by}
 use Rattle.kept_analysis.proofs.renamed_texts.renamed_units.Goals as goal
 
 pub loop-unit-preserved : goal.loop-unit-preserved

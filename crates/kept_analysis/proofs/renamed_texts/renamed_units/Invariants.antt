@@ -2,7 +2,7 @@ use Rattle.std.proofs.Common.{◌≡◌, ℕ, Some, map, slice_get}
 use Rattle.analysis.specs.Analysis.{UnitAnalysis}
 use Rattle.analysis.specs.Changed.{renamed_unit_analysis}
 use Rattle.kept_analysis.specs.Following.{IsReadAsBefore}
-use Rattle.kept_analysis.specs.Moves.{renaming_by}
+use Rattle.offences.specs.Moves.{renaming_by}
 use Rattle.kept_analysis.proofs.renamed_texts.renamed_units.Given as goal
 
 abbrev pub invariant-loop-unit : goal.invariant-loop-unit

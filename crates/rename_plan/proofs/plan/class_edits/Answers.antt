@@ -1,5 +1,5 @@
 use Rattle.rename_rules.proofs.RunLemmas.{members_apart}
-use Rattle.rename_plan.proofs.PathLemmas.{members_by_path}
+use Rattle.rename_rules.proofs.PathLemmas.{members_by_path}
 use Rattle.rename_plan.proofs.plan.class_edits.Goals as goal
 
 pub edit_files-requires-clause-apart : goal.edit_files-requires-clause-apart

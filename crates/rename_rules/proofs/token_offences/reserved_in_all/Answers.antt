@@ -8,10 +8,10 @@ loop-tok-init c = then_none c.args.a.now.value.table c.args.first
 
 pub loop-tok-preserved : goal.loop-tok-preserved
 loop-tok-preserved c =
-    then_next c.args.a.now.value.table cause.Reserved (reserved_place c.args.class.now.members c.args.name.now) c.args.toks.now c.loop-tok.tok-index c.tok-item.result c.args.first c.loop-tok.now _
+    then_next c.args.a.now.value.table cause.Reserved (reserved_place c.args.gnu c.args.class.now.members c.args.name.now) c.args.toks.now c.loop-tok.tok-index c.tok-item.result c.args.first c.loop-tok.now _
     c.loop-tok-test.true c.tok-item.is c.loop-tok.invariant c.in_ok-now.ensures
 
 pub returns : goal.returns
 returns c =
-    then_all c.args.a.now.value.table cause.Reserved (reserved_place c.args.class.now.members c.args.name.now) c.args.toks.now c.loop-tok.tok-index c.args.first c.loop-tok.now
+    then_all c.args.a.now.value.table cause.Reserved (reserved_place c.args.gnu c.args.class.now.members c.args.name.now) c.args.toks.now c.loop-tok.tok-index c.args.first c.loop-tok.now
     c.loop-tok-test.false c.loop-tok.invariant

@@ -1,6 +1,6 @@
 use Rattle.std.proofs.Common.{sym}
 use Rattle.template_rules.proofs.ListLemmas.{with_each-none}
-use Rattle.template_rules.proofs.PlanLemmas.{kept_text}
+use Rattle.template_rules.proofs.EditLemmas.{kept_text}
 use Rattle.template_rules.proofs.file_edits.put_numbered.Goals as goal
 
 pub put_file-requires-clause-text : goal.put_file-requires-clause-text

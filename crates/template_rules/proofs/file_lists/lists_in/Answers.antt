@@ -1,10 +1,16 @@
 use Rattle.std.proofs.Common.{[], sym, ◌∙◌}
 use Rattle.template_rules.specs.FileLists.{marks_in}
-use Rattle.template_rules.proofs.ListLemmas.{lists_next, with_none}
+use Rattle.std.proofs.Common.{take}
+use Rattle.std.specs.List.{flat_map}
+use Rattle.template_rules.proofs.ListLemmas.{lists_next, lists_rise, with_none}
 use Rattle.template_rules.proofs.file_lists.lists_in.Goals as goal
 
 pub loop-one-init : goal.loop-one-init
 loop-one-init c = c.new-lists.ensures.items ∙ sym (with_none [])
+
+pub put_found-requires : goal.put_found-requires
+put_found-requires c =
+    lists_rise (flat_map (marks_in c.args.file) (take c.loop-one.one-index c.args.found.now)) c.loop-one.lists.items c.loop-one.invariant
 
 pub loop-one-preserved : goal.loop-one-preserved
 loop-one-preserved c =

@@ -1,26 +1,18 @@
-use Rattle.std.proofs.Common.{sym}
-use Rattle.cs_base.specs.declared.causes.Cause.TheVariants as cause
-use Rattle.offences.specs.First.{standing}
-use Rattle.offences.proofs.FirstLemmas.{then_none}
-use Rattle.template_rules.specs.MacroOffences.{line_number_place}
-use Rattle.template_rules.proofs.StepLemmas.{more_next, more_all}
+use Rattle.std.proofs.Common.{true, false, refl, sym}
+use Rattle.template_rules.proofs.CoverLemmas.{no_numbers_told, numbers_told}
 use Rattle.template_rules.proofs.TurnLemmas.{not_numbered}
 use Rattle.template_rules.proofs.list_insides.line_number_in.Goals as goal
 
 pub returns-then-not-is_line_number : goal.returns-then-not-is_line_number
-returns-then-not-is_line_number c =
-    not_numbered c.args.a.now.value.table c.args.event.now (λ m. m.now) c.args.lists.now c.args.first (sym c.if-not-is_line_number.ensures)
+returns-then-not-is_line_number c ls moved =
+    not_numbered c.args.a.now.value.table c.args.event.now (λ m. m.now) ls c.args.first (sym c.if-not-is_line_number.ensures)
 
-pub loop-list-init : goal.loop-list-init
-loop-list-init c = then_none c.args.a.now.value.table c.args.first
+pub returns-then-holds : goal.returns-then-holds
+returns-then-holds c ls moved =
+    numbers_told c.args.a.now.value.table ls c.args.lists.now.lists.items moved c.args.first c.first_with.result true c.args.event.now
+    (sym c.if-not-is_line_number.ensures) c.if-holds.ensures refl c.first_with.ensures
 
-pub loop-list-preserved : goal.loop-list-preserved
-loop-list-preserved c =
-    more_next c.args.a.now.value.table (λ m. standing cause.LineNumber (line_number_place m.now c.args.event.now)) c.args.lists.now c.loop-list.list-index
-    c.list-item.result c.args.first c.loop-list.now c.line_number_at-now.result
-    c.loop-list-test.true c.list-item.is c.loop-list.invariant c.line_number_at-now.ensures
-
-pub returns : goal.returns
-returns c =
-    more_all c.args.a.now.value.table (λ m. standing cause.LineNumber (line_number_place m.now c.args.event.now)) c.args.lists.now c.loop-list.list-index
-    c.args.first c.loop-list.now c.loop-list-test.false c.loop-list.invariant
+pub returns-else-holds : goal.returns-else-holds
+returns-else-holds c ls moved =
+    no_numbers_told c.args.a.now.value.table ls c.args.lists.now.lists.items moved c.args.first c.args.first false c.args.event.now
+    (sym c.if-not-is_line_number.ensures) c.if-holds.ensures refl

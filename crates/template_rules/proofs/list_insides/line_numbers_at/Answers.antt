@@ -7,15 +7,15 @@ use Rattle.template_rules.proofs.StepLemmas.{more_next, more_all}
 use Rattle.template_rules.proofs.list_insides.line_numbers_at.Goals as goal
 
 pub loop-event-init : goal.loop-event-init
-loop-event-init c = then_none c.args.a.now.value.table c.args.first
+loop-event-init c ls moved = then_none c.args.a.now.value.table c.args.first
 
 pub loop-event-preserved : goal.loop-event-preserved
-loop-event-preserved c =
-    more_next c.args.a.now.value.table (λ e. flat_map (λ m. standing cause.LineNumber (line_number_place m.now e)) c.args.lists.now) c.args.events.now
+loop-event-preserved c ls moved =
+    more_next c.args.a.now.value.table (λ e. flat_map (λ m. standing cause.LineNumber (line_number_place m.now e)) ls) c.args.events.now
     c.loop-event.event-index c.event-item.result c.args.first c.loop-event.now c.line_number_in-now.result
-    c.loop-event-test.true c.event-item.is c.loop-event.invariant c.line_number_in-now.ensures
+    c.loop-event-test.true c.event-item.is (c.loop-event.invariant ls moved) (c.line_number_in-now.ensures ls moved)
 
 pub returns : goal.returns
-returns c =
-    more_all c.args.a.now.value.table (λ e. flat_map (λ m. standing cause.LineNumber (line_number_place m.now e)) c.args.lists.now) c.args.events.now
-    c.loop-event.event-index c.args.first c.loop-event.now c.loop-event-test.false c.loop-event.invariant
+returns c ls moved =
+    more_all c.args.a.now.value.table (λ e. flat_map (λ m. standing cause.LineNumber (line_number_place m.now e)) ls) c.args.events.now
+    c.loop-event.event-index c.args.first c.loop-event.now c.loop-event-test.false (c.loop-event.invariant ls moved)

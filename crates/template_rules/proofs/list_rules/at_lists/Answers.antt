@@ -12,12 +12,16 @@ pub loop-unit-init : goal.loop-unit-init
 loop-unit-init c = then_none c.args.functions.now.analysis.value.table c.args.first
 
 pub at_declarators-declared-requires : goal.at_declarators-declared-requires
-at_declarators-declared-requires c =
-    unit_own c.args.functions.now c.units-units.result.now c.units-units.ensures c.loop-unit.unit-index c.unit-item.result c.loop-unit-test.true c.unit-item.is
+at_declarators-declared-requires c = record {
+  class = unit_own c.args.functions.now c.units-units.result.now c.units-units.ensures c.loop-unit.unit-index c.unit-item.result c.loop-unit-test.true c.unit-item.is;
+  odds = rw c.analysis.ensures at c.in_ok-odds.ensures;
+}
 
 pub at_calls-now-requires : goal.at_calls-now-requires
-at_calls-now-requires c =
-    unit_own c.args.functions.now c.units-units.result.now c.units-units.ensures c.loop-unit.unit-index c.unit-item.result c.loop-unit-test.true c.unit-item.is
+at_calls-now-requires c = record {
+  class = unit_own c.args.functions.now c.units-units.result.now c.units-units.ensures c.loop-unit.unit-index c.unit-item.result c.loop-unit-test.true c.unit-item.is;
+  odds = rw c.analysis.ensures at c.in_ok-odds.ensures;
+}
 
 pub loop-unit-preserved : goal.loop-unit-preserved
 loop-unit-preserved c =
@@ -31,9 +35,8 @@ loop-unit-preserved c =
     (flat_map (declarator_offences class.members a odds f.text.now f.bound.now f.lists.items) f.bound.now.declarators)
     (flat_map (call_offences class.members a odds f.text.now f.bound.now f.ends.items) f.bound.now.calls)
     c.loop-unit.now c.at_declarators-declared.result c.at_calls-now.result
-    (rw (c.declarators.ensures, c.deref.ensures.value, c.in_ok-odds.ensures, c.analysis.ensures) at c.at_declarators-declared.ensures)
-    (rw (c.calls.ensures, c.deref-in-loop-unit.ensures.value, c.in_ok-odds.ensures, c.analysis.ensures, c.deref-in-loop-unit-2.ensures.value)
-    at c.at_calls-now.ensures))
+    (rw c.declarators.ensures at c.at_declarators-declared.ensures)
+    (rw (c.calls.ensures, c.deref.ensures.value) at c.at_calls-now.ensures))
 
 pub returns : goal.returns
 returns c =

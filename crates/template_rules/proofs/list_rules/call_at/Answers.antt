@@ -1,6 +1,7 @@
 use Rattle.cs_base.specs.declared.causes.Cause.TheVariants as cause
 use Rattle.offences.specs.First.{standing}
 use Rattle.offences.proofs.FirstLemmas.{then_both, then_none}
+use Rattle.template_rules.specs.LineOffences.{odd_positions}
 use Rattle.template_rules.specs.Offences.{list_offences}
 use Rattle.template_rules.specs.ScopeOffences.{body_place}
 use Rattle.template_rules.proofs.list_rules.call_at.Goals as goal
@@ -12,7 +13,7 @@ returns-then-names_function c =
     let named = rw c.requires.class at c.if-names_function.ensures in
     rw (← named)
     (then_both class.analysis.value.table
-    (list_offences class.members class.analysis.value c.args.odds.now unit.text.now c.args.list.now)
+    (list_offences class.members class.analysis.value (odd_positions class.analysis.value.table) unit.text.now c.args.list.now)
     (standing cause.DeclarationInArgument (body_place unit.text.now.toks c.args.ends.now c.args.list.now))
     c.args.first c.list_at-named.result c.body_at.result c.list_at-named.ensures
     (rw (c.analysis.ensures, c.toks.ensures) at c.body_at.ensures))

@@ -1,17 +1,17 @@
-use Rattle.offences.proofs.FirstLemmas.{then_none, then_next_or, then_all}
-use Rattle.cs_base.specs.declared.causes.Cause.TheVariants as cause
-use Rattle.template_rules.specs.LineOffences.{odd_place}
+use Rattle.std.proofs.Common.{[]}
+use Rattle.std.specs.Prelude.{cond}
+use Rattle.template_rules.specs.LineOffences.{odd_positions}
+use Rattle.template_rules.specs.OddLines.{odds_among_list, odds_by_list}
+use Rattle.template_rules.proofs.LineOddsLemmas.{odds_told, then_places}
 use Rattle.template_rules.proofs.odd_tokens.odds_at.Goals as goal
-
-pub loop-p-init : goal.loop-p-init
-loop-p-init c = then_none c.args.a.now.value.table c.args.first
-
-pub loop-p-preserved : goal.loop-p-preserved
-loop-p-preserved c =
-    then_next_or c.args.a.now.value.table cause.OddToken (odd_place c.args.a.now.value.table c.args.text.now c.args.list.now) c.args.odds.now c.loop-p.p-index _ c.args.first c.loop-p.now c.odd_at-now.result
-    c.loop-p-test.true c.loop-p.invariant c.odd_at-now.ensures
 
 pub returns : goal.returns
 returns c =
-    then_all c.args.a.now.value.table cause.OddToken (odd_place c.args.a.now.value.table c.args.text.now c.args.list.now) c.args.odds.now c.loop-p.p-index c.args.first c.loop-p.now
-    c.loop-p-test.false c.loop-p.invariant
+    let table = c.args.a.now.value.table in
+    let odds = odd_positions table in
+    let text = c.args.unit.now.text.now in
+    let l = c.args.list.now in
+    let direct = c.is_whole.result in
+    odds_told table odds text l direct c.args.first c.odd_inside.result c.is_whole.ensures
+    (then_places table (odds_by_list table odds text.toks l) (cond direct (odds_among_list table odds text.toks l) []) c.args.first c.odd_by_list-now.result
+    c.odd_inside.result (rw c.toks-toks.ensures at c.odd_by_list-now.ensures) (rw c.toks-toks.ensures at c.odd_inside.ensures))

@@ -19,6 +19,7 @@ is_unused-requires c = record {
   first = c.firsts-firsts.ensures.each c.loop-part.part-index _ (slice_get-get_or c.firsts-firsts.result.now c.loop-part.part-index _ c.loop-part-test.true);
   declared = c.requires.declared;
   used = c.requires.used;
+  files = c.requires.files;
 }
 
 pub loop-part-preserved : goal.loop-part-preserved

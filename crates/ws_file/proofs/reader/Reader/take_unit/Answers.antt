@@ -1,4 +1,4 @@
-use Rattle.std.proofs.Common.{◌≡◌, ◌++◌, ◌∷◌, [], true, false, refl, rules}
+use Rattle.std.proofs.Common.{◌≡◌, ◌++◌, ◌∷◌, [], true, false, rules}
 use Rattle.cs_base.specs.Paths.{normal_path_of}
 use Rattle.cs_base.specs.Units.{defines_fit}
 use Rattle.ws_file.specs.Reading.{reading, is_bad_path}
@@ -32,4 +32,4 @@ invariant_of-self-2 c =
     let pushed : c.push.new.self.items ≡ r.units.items ++ u ∷ [] = search rules in
     rw pushed
     (IsReading-unit now u c.self.invariant
-    (IsUnit-reading now (normal_path_of path) c.self.invariant (is_unit_path-normal path c.requires.writable good) fits) refl)
+    (IsUnit-reading now (normal_path_of path) c.self.invariant (is_unit_path-normal path c.requires.writable good) fits))

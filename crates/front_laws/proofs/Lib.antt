@@ -1,0 +1,6 @@
+mod CarriedFacts
+mod CarriedNames
+mod CarriedMembers
+mod CarriedNodes
+mod CarriedWalk
+mod GnuCarried

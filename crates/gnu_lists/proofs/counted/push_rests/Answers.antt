@@ -1,0 +1,12 @@
+use Rattle.std.proofs.Common.{sym, ap, ◌∙◌, ◌++◌, arith}
+use Rattle.std.proofs.lemmas.List.{append-nil}
+use Rattle.gnu_lists.specs.Counted.{told_rests}
+use Rattle.c_types.proofs.ChildWalks.{from_child-end}
+use Rattle.gnu_lists.proofs.counted.push_rests.Goals as goal
+
+pub returns : goal.returns
+returns c =
+    sym (append-nil c.children.out.items)
+    ∙ (ap (λ f. c.children.out.items ++ told_rests c.args.toks.now c.args.mark c.args.before.now f)
+    (sym (from_child-end c.args.tree.now.under c.children.k (omega (arith, c.children-test.false, c.len-count.ensures))))
+    ∙ c.children.invariant)

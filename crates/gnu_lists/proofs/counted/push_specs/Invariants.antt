@@ -1,0 +1,7 @@
+use Rattle.std.proofs.Common.{◌≡◌, ◌++◌}
+use Rattle.c_types.specs.Children.{from_child}
+use Rattle.gnu_lists.specs.Counted.{marks_of_specs}
+use Rattle.gnu_lists.proofs.counted.push_specs.Given as goal
+
+abbrev pub invariant-children : goal.invariant-children
+invariant-children l = l.out.items ++ marks_of_specs l.toks l.mark (from_child l.k l.tree.under) ≡ l.initial.out.items ++ marks_of_specs l.toks l.mark l.tree.under

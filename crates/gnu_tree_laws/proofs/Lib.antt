@@ -1,0 +1,7 @@
+pub mod GnuHeld
+mod GnuNoted
+mod GnuCounted
+pub mod GnuSpelled
+pub mod GnuOnce
+mod GnuKept
+pub mod GnuLinked

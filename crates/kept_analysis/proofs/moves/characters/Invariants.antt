@@ -1,9 +1,0 @@
-use Rattle.std.proofs.Common.{◌-◌, ◌≤◌, length}
-use Rattle.kept_analysis.specs.Moves.{text_in}
-use Rattle.kept_analysis.proofs.moves.characters.Given as goal
-
-abbrev pub invariant-loop-count : goal.invariant-loop-count
-invariant-loop-count l = l.count ≤ length (text_in l.file.bytes)
-
-abbrev pub decreases-loop-count : goal.decreases-loop-count
-decreases-loop-count l = length (text_in l.file.bytes) - l.count

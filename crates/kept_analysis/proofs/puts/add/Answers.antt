@@ -1,7 +1,0 @@
-use Rattle.std.proofs.Common.{arith}
-use Rattle.kept_analysis.proofs.PutLemmas.{adds_by}
-use Rattle.kept_analysis.proofs.puts.add.Goals as goal
-
-pub returns-then-member-number-clause-added : goal.returns-then-member-number-clause-added
-returns-then-member-number-clause-added c =
-    adds_by c.args.member c.args.number c.args.puts.now.items c.mark.new.puts.items (omega (arith, c.if-member-number.true)) c.mark.ensures.all c.mark.ensures.marked

@@ -1,9 +1,0 @@
-use Rattle.std.proofs.Common.{◌≡◌, ◌-◌, drop, length}
-use Rattle.kept_analysis.specs.Moves.{ArePuts}
-use Rattle.kept_analysis.proofs.puts.puts.Given as goal
-
-abbrev pub invariant-loop-k : goal.invariant-loop-k
-invariant-loop-k l = record {
-  each : ArePuts (drop (length l.members - l.k) l.members) l.number l.puts.items;
-  all : length l.puts.items ≡ l.size;
-}

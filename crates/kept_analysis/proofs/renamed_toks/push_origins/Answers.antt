@@ -1,6 +1,0 @@
-use Rattle.kept_analysis.proofs.TokLemmas.{origins_pushed}
-use Rattle.kept_analysis.proofs.renamed_toks.push_origins.Goals as goal
-
-pub loop-k-preserved : goal.loop-k-preserved
-loop-k-preserved c =
-    origins_pushed c.args.from.file c.args.from.at c.loop-k.k c.args.origins.now.items c.loop-k.origins.items c.push.new.self.items c.loop-k.invariant c.in_ok-push.ensures.items

@@ -1,9 +1,0 @@
-use Rattle.std.proofs.Common.{◌≡◌, ◌++◌, drop}
-use Rattle.kept_analysis.specs.Moves.{spell_by, trace_by}
-use Rattle.kept_analysis.proofs.renamed_toks.respell.Given as goal
-
-abbrev pub invariant-loop-k : goal.invariant-loop-k
-invariant-loop-k l = record {
-  text : l.text.items ++ spell_by l.moves (drop l.k l.tok.origins) (drop l.k l.tok.text) ≡ l.initial.text.items ++ spell_by l.moves l.tok.origins l.tok.text;
-  origins : l.origins.items ++ trace_by l.moves (drop l.k l.tok.origins) (drop l.k l.tok.text) ≡ l.initial.origins.items ++ trace_by l.moves l.tok.origins l.tok.text;
-}

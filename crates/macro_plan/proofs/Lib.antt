@@ -1,0 +1,4 @@
+pub mod EditedLemmas
+pub mod AlikeLemmas
+pub mod PlanLemmas
+pub mod OnceLemmas

@@ -1,0 +1,409 @@
+-- Units of GNU C, one after another, and what stands against a renaming in them.
+use Rattle.std.proofs.Common.{◌≡◌, ℕ, zero, suc, ◌+◌, ◌-◌, ◌<◌, ◌≤◌, ◌&&◌, ◌||◌, not, get_or, Bool, true, false, List, [], ◌∷◌, ◌++◌, length, take, Option, None, Some, slice_get, inl, inr, refl, sym, ap, subst, ◌∙◌, append_assoc, append-nil, arith}
+use Rattle.std.specs.Prelude.{cond, is_some, is_none}
+use Rattle.std.specs.List.{flat_map, list_any}
+use Rattle.std.specs.Option.{option_map, option_map_or}
+use Rattle.std.specs.Str.{bytes_eq}
+use Rattle.std.proofs.lemmas.Bool.{cases_Bool, false≢true}
+use Rattle.std.proofs.lemmas.Grind.{flat_map-append}
+use Rattle.std.proofs.lemmas.List.{take_all, take_more}
+use Rattle.std.proofs.lemmas.Option.{none-some, same_Some, slice_get_within, slice_get-get_or, slice_get_past, get_or_from_slice_get}
+use Rattle.std.proofs.lemmas.Slice.Eq.{bytes_eq-Decides}
+use Rattle.cs_base.specs.declared.causes.Cause.TheVariants as cause
+use Rattle.cs_base.specs.declared.positions.Part.{Part}
+use Rattle.cs_base.specs.declared.positions.Pos.{Pos}
+use Rattle.cs_base.specs.Token.{Token}
+use Rattle.cs_base.specs.Units.{is_gnu}
+use Rattle.analysis.specs.Below.source_files.Files.{Table}
+use Rattle.analysis.specs.Below.scope_bind.declared.bound.Name.{Name}
+use Rattle.analysis.specs.Below.scope_bind.Names.{entity_at}
+use Rattle.gnu_lists.specs.declared.lists.Adjacent.{Adjacent}
+use Rattle.gnu_lists.specs.Lists.{Listed, listed_in}
+use Rattle.analysis.specs.Analysis.{UnitAnalysis, AnalysisValue}
+use Rattle.analysis.specs.Changed.{Renaming}
+use Rattle.analysis.specs.GnuUnits.{begin_of, gnu_begin}
+use Rattle.offences.specs.Respelling.{renaming_of}
+use Rattle.offences.specs.declared.firsts.Offence.{Offence}
+use Rattle.offences.specs.First.{standing, FirstThen}
+use Rattle.offences.specs.Tokens.{holds_member, member_of}
+use Rattle.offences.proofs.FirstLemmas.{then_none, then_both, then_all}
+use Rattle.rename_rules.proofs.UnitLemmas.{unit_next}
+use Rattle.rename_rules.specs.GnuOffences.{failing_by, failing_places, is_kept, has_gnu, word_place, is_named, joined, text_toks, text_place, told_offences, unit_offences, gnu_offences, symbols, symbols_in}
+use Rattle.rename_rules.specs.GnuTexts.{symbol_in, idle, word_place_in, at_place, text_place_in, told_in, HaveTexts, AddTexts}
+use Rattle.rename_rules.specs.GnuUnits.{FailsIn, IsAgainstUnit}
+use Rattle.rename_rules.specs.Tokens.{start_of, starts_in}
+
+-- ---- lists
+
+pub there : {X : Type 0} (xs : List X) (k : ℕ) → k < length xs → (x : X) × (slice_get xs k ≡ Some x)
+there [] k less = absurd (omega (arith, less))
+there (x ∷ xs) zero less = (x, refl)
+there (x ∷ xs) (suc k) less = there xs k (omega (arith, less))
+
+pub any_there : {X : Type 0} (test : X → Bool) (xs : List X) (k : ℕ) (x : X) → slice_get xs k ≡ Some x → test x ≡ true → list_any test xs ≡ true
+any_there test [] k x at h = absurd (none-some x at)
+any_there test (y ∷ xs) zero x at h = let here : test y ≡ true = ap test (same_Some y x at) ∙ h in rw here refl
+any_there test (y ∷ xs) (suc k) x at h = elim (cases_Bool (test y)) [
+  | inl first ↦ rw first refl
+  | inr later ↦ rw later (any_there test xs k x at h)
+]
+
+any_append : {X : Type 0} (test : X → Bool) (xs ys : List X) → list_any test (xs ++ ys) ≡ (list_any test xs || list_any test ys)
+any_append test [] ys = refl
+any_append test (x ∷ xs) ys = elim (cases_Bool (test x)) [
+  | inl first ↦ rw first refl
+  | inr later ↦ rw later (any_append test xs ys)
+]
+
+next : {X : Type 0} (xs : List X) (k : ℕ) (x : X) → slice_get xs k ≡ Some x → take (k + 1) xs ≡ take k xs ++ x ∷ []
+next {X = X} xs k x at =
+    take_more xs k x (slice_get_within xs k x at) ∙ ap (λ (y : X). take k xs ++ y ∷ []) (get_or_from_slice_get xs k x x at)
+
+pub none_more : {X : Type 0} (test : X → Bool) (xs : List X) (k : ℕ) (x : X) → slice_get xs k ≡ Some x → list_any test (take k xs) ≡ false → test x ≡ false
+    → list_any test (take (k + 1) xs) ≡ false
+none_more {X = X} test xs k x at before here =
+    ap (list_any test) (next xs k x at) ∙ (any_append test (take k xs) (x ∷ []) ∙ (ap (λ (b : Bool). b || list_any test (x ∷ [])) before ∙ ap (λ (b : Bool). b || false) here))
+
+no_elements : {X Y : Type 0} (f : X → List Y) (xs : List X) → ((k : ℕ) (x : X) → slice_get xs k ≡ Some x → f x ≡ []) → flat_map f xs ≡ []
+no_elements f [] each = refl
+no_elements {Y = Y} f (x ∷ xs) each = ap (λ (ys : List Y). ys ++ flat_map f xs) (each 0 x refl) ∙ no_elements f xs (λ k y at. each (suc k) y at)
+
+none_there : {X : Type 0} (test : X → Bool) (xs : List X) → list_any test xs ≡ false → (k : ℕ) (x : X) → slice_get xs k ≡ Some x → test x ≡ false
+none_there test xs none k x at = elim (cases_Bool (test x)) [
+  | inl yes' ↦ absurd (false≢true (sym none ∙ any_there test xs k x at yes'))
+  | inr no' ↦ no'
+]
+
+-- ---- what a call gives of a unit
+
+pub told : {X : Type 0} (f : UnitAnalysis → X) (o : Option UnitAnalysis) (u : UnitAnalysis) (x : X) → o ≡ Some u → option_map f o ≡ Some x → x ≡ f u
+told f None u x is e = absurd (none-some u is)
+told f (Some v) u x is e = sym (same_Some (f v) x e) ∙ ap f (same_Some v u is)
+
+begun_if : (g : Bool) (b p : Pos) → cond g (Some b) None ≡ Some p → (g ≡ true) × (b ≡ p)
+begun_if true b p e = (refl, same_Some b p e)
+begun_if false b p e = absurd (none-some p e)
+
+pub begun : (u : UnitAnalysis) (p : Pos) → gnu_begin u ≡ Some p → (is_gnu u.standard ≡ true) × (begin_of u.text.toks ≡ p)
+begun u p e = begun_if (is_gnu u.standard) (begin_of u.text.toks) p e
+
+is_begun : (g : Bool) (b : Pos) → is_some (cond g (Some b) None) ≡ g
+is_begun true b = refl
+is_begun false b = refl
+
+pub begins : (u : UnitAnalysis) → is_some (gnu_begin u) ≡ is_gnu u.standard
+begins u = is_begun (is_gnu u.standard) (begin_of u.text.toks)
+
+unbegun_if : (g : Bool) (b : Pos) → cond g (Some b) None ≡ None → g ≡ false
+unbegun_if true b e = absurd (none-some b (sym e))
+unbegun_if false b e = refl
+
+pub unbegun : (u : UnitAnalysis) → gnu_begin u ≡ None → is_gnu u.standard ≡ false
+unbegun u e = unbegun_if (is_gnu u.standard) (begin_of u.text.toks) e
+
+pub told_gnu : (o : Option UnitAnalysis) (u : UnitAnalysis) (at : Option Pos) → o ≡ Some u → option_map gnu_begin o ≡ Some at → is_some at ≡ true → is_gnu u.standard ≡ true
+told_gnu o u None is e some = absurd (false≢true some)
+told_gnu o u (Some p) is e some = (begun u p (sym (told gnu_begin o u (Some p) is e))).0
+
+-- ---- units
+
+pub offences_next : (table : Table) (g : UnitAnalysis → List Offence) (units : List UnitAnalysis) (k : ℕ) (u : UnitAnalysis) (a b c : Option Offence)
+    → slice_get units k ≡ Some u → FirstThen table (flat_map g (take k units)) a b → FirstThen table (g u) b c → FirstThen table (flat_map g (take (k + 1) units)) a c
+offences_next table g units k u a b c at before here =
+    let all : flat_map g (take (k + 1) units) ≡ flat_map g (take k units) ++ g u =
+    ap (flat_map g) (next units k u at) ∙ (flat_map-append g (take k units) (u ∷ []) ∙ ap (λ (os : List Offence). flat_map g (take k units) ++ os) (append-nil (g u))) in
+    rw all (then_both table (flat_map g (take k units)) (g u) a b c before here)
+
+pub offences_all : (table : Table) (g : UnitAnalysis → List Offence) (units : List UnitAnalysis) (k : ℕ) (a b : Option Offence) → length units ≤ k
+    → FirstThen table (flat_map g (take k units)) a b → FirstThen table (flat_map g units) a b
+offences_all table g units k a b past is = subst (λ (us : List UnitAnalysis). FirstThen table (flat_map g us) a b) (take_all k units past) is
+
+module _ (a : AnalysisValue) (members : List Part) (name : List ℕ) where
+  not_gnu : (olds : List (List ℕ)) (u : UnitAnalysis) → is_gnu u.standard ≡ false → unit_offences members name olds u ≡ []
+  not_gnu olds u no' = ap (λ (b : Bool). cond b (told_offences members name olds u (listed_in u.text.toks u.tree.under)) []) no'
+
+  pub no_gnu : has_gnu a ≡ false → gnu_offences a members name ≡ []
+  unfolding has_gnu gnu_offences
+  no_gnu none =
+      no_elements (unit_offences members name (symbols a members)) a.units (λ k u at.
+      not_gnu (symbols a members) u (none_there (λ (v : UnitAnalysis). is_gnu v.standard) a.units none k u at))
+
+  -- a unit that is not of GNU C
+  pub unit_begun : (first : Option Offence) (olds : List Token) (unit : ℕ) (at : Option Pos) → option_map gnu_begin (slice_get a.units (unit - 1)) ≡ Some at → is_none at ≡ true
+      → IsAgainstUnit a members name olds unit first first
+  unit_begun first olds unit (Some p) e none u texts is have = absurd (false≢true none)
+  unit_begun first olds unit None e none u texts is have =
+      subst (λ (os : List Offence). FirstThen a.table os first first)
+      (sym (not_gnu texts u (unbegun u (sym (told gnu_begin (slice_get a.units (unit - 1)) u None is e))))) (then_none a.table first)
+
+  -- ---- words and texts
+
+  no_start : (t : Token) → holds_member members t ≡ false → starts_in members t ≡ []
+  no_start t none = no_elements (start_of members) t.origins (λ k o at. by o (none_there (λ origin. is_some (member_of members origin)) t.origins none k o at))
+    where
+      by : (o : Option Pos) → is_some (member_of members o) ≡ false → start_of members o ≡ []
+      by o no' = member_by (member_of members o) no'
+        where
+          member_by : (m : Option Part) → is_some m ≡ false → option_map_or (λ (n : Part). n.start ∷ []) m [] ≡ []
+          member_by None e = refl
+          member_by (Some m) e = absurd (false≢true (sym e))
+
+  module _ (u : UnitAnalysis) (olds : List Token) (texts : List (List ℕ)) (have : HaveTexts olds texts) where
+    text_same : (x : Adjacent) → text_place_in members name olds u.text.toks x ≡ text_place members name texts u x
+    text_same x = ap (λ (b : Bool). cond b (at_place u.text.toks x.from) []) (have (is_named name (joined members name (text_toks u.text.toks x))))
+
+    told_same : (listed : Listed) → told_in members name olds u.bound.names u.text.toks listed ≡ told_offences members name texts u listed
+    told_same listed =
+        ap (λ (f : Adjacent → List Pos). standing cause.Reserved (flat_map (word_place members u) listed.places) ++ standing cause.AssemblerText (flat_map f listed.texts))
+        (λ i x. text_same x i)
+
+    -- no word holds a member, and the assembler knows nothing of the class
+    quiet_word : list_any (holds_member members) u.text.toks ≡ false → (k : ℕ) → word_place members u k ≡ []
+    quiet_word none k = by (is_some (entity_at u.bound.names k)) (slice_get u.text.toks k) refl
+      where
+        at_token : (o : Option Token) → slice_get u.text.toks k ≡ o → option_map_or (starts_in members) o [] ≡ []
+        at_token None e = refl
+        at_token (Some t) e = no_start t (none_there (holds_member members) u.text.toks none k t e)
+
+        by : (b : Bool) (o : Option Token) → slice_get u.text.toks k ≡ o → cond b [] (option_map_or (starts_in members) o []) ≡ []
+        by true o e = refl
+        by false o e = at_token o e
+
+    quiet_text : olds ≡ [] → (x : Adjacent) → text_place members name texts u x ≡ []
+    quiet_text none x = sym (text_same x) ∙ ap (λ (ts : List Token). text_place_in members name ts u.text.toks x) none
+
+    quiet_told : olds ≡ [] → list_any (holds_member members) u.text.toks ≡ false → (listed : Listed) → told_offences members name texts u listed ≡ []
+    quiet_told empty none listed =
+        ap (λ (ps : List Pos). standing cause.Reserved ps ++ standing cause.AssemblerText (flat_map (text_place members name texts u) listed.texts))
+        (no_elements (word_place members u) listed.places (λ n k at. quiet_word none k))
+        ∙ ap (standing cause.AssemblerText) (no_elements (text_place members name texts u) listed.texts (λ n x at. quiet_text empty x))
+
+    in_gnu : is_gnu u.standard ≡ true → unit_offences members name texts u ≡ told_offences members name texts u (listed_in u.text.toks u.tree.under)
+    in_gnu yes' = ap (λ (b : Bool). cond b (told_offences members name texts u (listed_in u.text.toks u.tree.under)) []) yes'
+
+    either_quiet : olds ≡ [] → list_any (holds_member members) u.text.toks ≡ false → (gnu : Bool) → is_gnu u.standard ≡ gnu → unit_offences members name texts u ≡ []
+    either_quiet empty none true yes' = in_gnu yes' ∙ quiet_told empty none (listed_in u.text.toks u.tree.under)
+    either_quiet empty none false no' = not_gnu texts u no'
+
+  pub unit_quiet : (first : Option Offence) (olds toks : List Token) (unit : ℕ) → ((u : UnitAnalysis) → slice_get a.units (unit - 1) ≡ Some u → toks ≡ u.text.toks) → olds ≡ []
+      → list_any (holds_member members) toks ≡ false → IsAgainstUnit a members name olds unit first first
+  unit_quiet first olds toks unit are empty none u texts is have =
+      let free : list_any (holds_member members) u.text.toks ≡ false = ap (list_any (holds_member members)) (sym (are u is)) ∙ none in
+      subst (λ (os : List Offence). FirstThen a.table os first first) (sym (either_quiet u olds texts have empty free (is_gnu u.standard) refl)) (then_none a.table first)
+
+  pub unit_against : (first now : Option Offence) (olds toks : List Token) (names : List Name) (listed : Listed) (unit : ℕ)
+      → ((u : UnitAnalysis) → slice_get a.units (unit - 1) ≡ Some u
+      → (is_gnu u.standard ≡ true) × (toks ≡ u.text.toks) × (names ≡ u.bound.names) × (listed ≡ listed_in u.text.toks u.tree.under))
+      → FirstThen a.table (told_in members name olds names toks listed) first now → IsAgainstUnit a members name olds unit first now
+  unit_against first now olds toks names listed unit are then_ u texts is have =
+      let of = are u is in
+      let same : told_in members name olds names toks listed ≡ unit_offences members name texts u =
+      ap (λ (ts : List Token). told_in members name olds names ts listed) of.1
+      ∙ (ap (λ (ns : List Name). told_in members name olds ns u.text.toks listed) of.2
+      ∙ (ap (told_in members name olds u.bound.names u.text.toks) of.3
+      ∙ (told_same u olds texts have (listed_in u.text.toks u.tree.under) ∙ sym (in_gnu u olds texts have of.0)))) in
+      subst (λ (os : List Offence). FirstThen a.table os first now) same then_
+
+-- ---- old spellings
+
+pub add_none : (toks : List Token) → AddTexts toks [] toks
+add_none toks before have test = have test ∙ ap (list_any test) (sym (append-nil before))
+
+pub add_both : (a b c : List Token) (xs ys : List (List ℕ)) → AddTexts a xs b → AddTexts b ys c → AddTexts a (xs ++ ys) c
+add_both a b c xs ys f g before have test = g (before ++ xs) (f before have) test ∙ ap (list_any test) (append_assoc before xs ys)
+
+or_known : (a b : Bool) → (b ≡ true → a ≡ true) → a ≡ (a || b)
+or_known true b h = refl
+or_known false true h = h refl
+or_known false false h = refl
+
+or_false : (b : Bool) → b ≡ (b || false)
+or_false true = refl
+or_false false = refl
+
+-- what is known is so already
+pub add_known : (toks : List Token) (text : List ℕ) → list_any (λ (t : Token). bytes_eq t.text text) toks ≡ true → AddTexts toks (text ∷ []) toks
+add_known toks text known before have test =
+    or_known (list_any (λ (t : Token). test t.text) toks) (test text) (λ h. again toks known h)
+    ∙ (ap (λ (b : Bool). b || test text) (have test) ∙ (ap (λ (b : Bool). list_any test before || b) (or_false (test text)) ∙ sym (any_append test before (text ∷ []))))
+  where
+    again : (ts : List Token) → list_any (λ (t : Token). bytes_eq t.text text) ts ≡ true → test text ≡ true → list_any (λ (t : Token). test t.text) ts ≡ true
+    again [] e h = absurd (false≢true e)
+    again (t ∷ ts) e h = elim (cases_Bool (bytes_eq t.text text)) [
+      | inl same ↦ let here : test t.text ≡ true = ap test ((bytes_eq-Decides t.text text).0 same) ∙ h in rw here refl
+      | inr other ↦
+          let rest : list_any (λ (t : Token). bytes_eq t.text text) ts ≡ true = rw other at e in
+          elim (cases_Bool (test t.text)) [
+            | inl first ↦ rw first refl
+            | inr later ↦ rw later (again ts rest h)
+          ]
+    ]
+
+-- one more is so too
+pub add_one : (toks new : List Token) (t : Token) (text : List ℕ) → t.text ≡ text → new ≡ toks ++ t ∷ [] → AddTexts toks (text ∷ []) new
+add_one toks new t text same pushed before have test =
+    ap (list_any (λ (u : Token). test u.text)) pushed
+    ∙ (any_append (λ (u : Token). test u.text) toks (t ∷ [])
+    ∙ (ap (λ (b : Bool). b || (test t.text || false)) (have test)
+    ∙ (ap (λ (w : List ℕ). list_any test before || (test w || false)) same ∙ sym (any_append test before (text ∷ [])))))
+
+-- names and units, one after another
+pub names_next : {X : Type 0} (f : X → List (List ℕ)) (xs : List X) (k : ℕ) (x : X) (a b c : List Token) → slice_get xs k ≡ Some x
+    → AddTexts a (flat_map f (take k xs)) b → AddTexts b (f x) c → AddTexts a (flat_map f (take (k + 1) xs)) c
+names_next f xs k x a b c at before here =
+    let all : flat_map f (take (k + 1) xs) ≡ flat_map f (take k xs) ++ f x =
+    ap (flat_map f) (next xs k x at) ∙ (flat_map-append f (take k xs) (x ∷ []) ∙ ap (λ (ys : List (List ℕ)). flat_map f (take k xs) ++ ys) (append-nil (f x))) in
+    subst (λ (ys : List (List ℕ)). AddTexts a ys c) (sym all) (add_both a b c (flat_map f (take k xs)) (f x) before here)
+
+pub units_next : (f : UnitAnalysis → List (List ℕ)) (units : List UnitAnalysis) (k : ℕ) (u : UnitAnalysis) (b c : List Token) → slice_get units k ≡ Some u
+    → HaveTexts b (flat_map f (take k units)) → AddTexts b (f u) c → HaveTexts c (flat_map f (take (k + 1) units))
+units_next f units k u b c at before here =
+    let all : flat_map f (take (k + 1) units) ≡ flat_map f (take k units) ++ f u =
+    ap (flat_map f) (next units k u at) ∙ (flat_map-append f (take k units) (u ∷ []) ∙ ap (λ (ys : List (List ℕ)). flat_map f (take k units) ++ ys) (append-nil (f u))) in
+    subst (λ (ys : List (List ℕ)). HaveTexts c ys) (sym all) (here (flat_map f (take k units)) before)
+
+pub units_all : (f : UnitAnalysis → List (List ℕ)) (units : List UnitAnalysis) (k : ℕ) (b : List Token) → length units ≤ k
+    → HaveTexts b (flat_map f (take k units)) → HaveTexts b (flat_map f units)
+units_all f units k b past is = subst (λ (us : List UnitAnalysis). HaveTexts b (flat_map f us)) (take_all k units past) is
+
+-- ---- tokens by their numbers
+
+pub no_place : (table : Table) (toks : List Token) (k : ℕ) (first : Option Offence) → length toks ≤ k
+    → FirstThen table (standing cause.AssemblerText (at_place toks k)) first first
+no_place table toks k first past =
+    subst (λ (o : Option Token). FirstThen table (standing cause.AssemblerText (option_map_or (λ (t : Token). t.at ∷ []) o [])) first first)
+    (sym (slice_get_past toks k past)) (then_none table first)
+
+pub no_word : (table : Table) (members : List Part) (names : List Name) (toks : List Token) (k : ℕ) (first : Option Offence) → length toks ≤ k
+    → FirstThen table (standing cause.Reserved (word_place_in members names toks k)) first first
+no_word table members names toks k first past =
+    subst (λ (o : Option Token). FirstThen table (standing cause.Reserved (cond (is_some (entity_at names k)) [] (option_map_or (starts_in members) o []))) first first)
+    (sym (slice_get_past toks k past)) (by (is_some (entity_at names k)))
+  where
+    by : (b : Bool) → FirstThen table (standing cause.Reserved (cond b [] [])) first first
+    by true = then_none table first
+    by false = then_none table first
+
+-- ---- which units are of GNU C
+
+begin_in : (o : Option UnitAnalysis) (at : Option Pos) → option_map gnu_begin o ≡ Some at → (u : UnitAnalysis) × (o ≡ Some u) × (gnu_begin u ≡ at)
+begin_in None at e = absurd (none-some at e)
+begin_in (Some u) at e = (u, refl, same_Some (gnu_begin u) at e)
+
+module _ (a : AnalysisValue) (k : ℕ) (at : Option Pos) (e : option_map gnu_begin (slice_get a.units (k + 1 - 1)) ≡ Some at) where
+  unit_here : (u : UnitAnalysis) × (slice_get a.units k ≡ Some u) × (gnu_begin u ≡ at)
+  unit_here =
+      let same : k + 1 - 1 ≡ k = omega arith in
+      begin_in (slice_get a.units k) at (ap (λ (n : ℕ). option_map gnu_begin (slice_get a.units n)) (sym same) ∙ e)
+
+  pub some_gnu : is_some at ≡ true → true ≡ has_gnu a
+  unfolding has_gnu
+  some_gnu is =
+      let u = unit_here in
+      let gnu : is_gnu (u.0).standard ≡ true = sym (begins u.0) ∙ (ap (λ (o : Option Pos). is_some o) u.2 ∙ is) in
+      sym (any_there (λ (v : UnitAnalysis). is_gnu v.standard) a.units k u.0 u.1 gnu)
+
+  pub still_none : is_some at ≡ false → list_any (λ (v : UnitAnalysis). is_gnu v.standard) (take k a.units) ≡ false
+      → list_any (λ (v : UnitAnalysis). is_gnu v.standard) (take (k + 1) a.units) ≡ false
+  still_none is before =
+      let u = unit_here in
+      none_more (λ (v : UnitAnalysis). is_gnu v.standard) a.units k u.0 u.1 before (sym (begins u.0) ∙ (ap (λ (o : Option Pos). is_some o) u.2 ∙ is))
+
+pub none_is_gnu : (a : AnalysisValue) (k : ℕ) → length a.units ≤ k → list_any (λ (v : UnitAnalysis). is_gnu v.standard) (take k a.units) ≡ false → false ≡ has_gnu a
+unfolding has_gnu
+none_is_gnu a k past none = sym (ap (list_any (λ (v : UnitAnalysis). is_gnu v.standard)) (sym (take_all k a.units past)) ∙ none)
+
+none_at : (o : Option Pos) → is_none o ≡ false → is_some o ≡ true
+none_at None e = sym e
+none_at (Some p) e = refl
+
+-- a unit that begins somewhere as one of GNU C is one
+pub is_one : (u : UnitAnalysis) (at : Option Pos) → at ≡ gnu_begin u → is_none at ≡ false → is_gnu u.standard ≡ true
+is_one u at told_at is = sym (begins u) ∙ (ap (λ (o : Option Pos). is_some o) (sym told_at) ∙ none_at at is)
+
+-- what is idle is so
+pub idle_is : (members : List Part) (olds toks : List Token) → idle members olds toks ≡ true → (olds ≡ []) × (list_any (holds_member members) toks ≡ false)
+idle_is members [] toks h = (refl, by (list_any (holds_member members) toks) h)
+  where
+    by : (b : Bool) → not b ≡ true → b ≡ false
+    by true e = absurd (false≢true e)
+    by false e = refl
+idle_is members (t ∷ olds) toks h = absurd (false≢true h)
+
+-- ---- texts
+
+pub in_named : (members : List Part) (name : List ℕ) (olds toks : List Token) (x : Adjacent) (n text : List ℕ) (ts : List Token) (b : Bool)
+    → n ≡ name → text ≡ joined members name ts → ts ≡ text_toks toks x → b ≡ list_any (λ (t : Token). is_named n text t.text) olds
+    → text_place_in members name olds toks x ≡ cond b (at_place toks x.from) []
+in_named members name olds toks x n text ts b names texts tokens e =
+    let given : text ≡ joined members name (text_toks toks x) = texts ∙ ap (joined members name) tokens in
+    let same : b ≡ list_any (λ (t : Token). is_named name (joined members name (text_toks toks x)) t.text) olds =
+    e ∙ (ap (λ (w : List ℕ). list_any (λ (t : Token). is_named w text t.text) olds) names
+    ∙ ap (λ (w : List ℕ). list_any (λ (t : Token). is_named name w t.text) olds) given) in
+    ap (λ (c : Bool). cond c (at_place toks x.from) []) (sym same)
+
+-- ---- units that are read and bound as before
+
+kept_if : (gnu kept : Bool) (p : Pos) → kept ≡ true → cond (gnu && not kept) (p ∷ []) [] ≡ []
+kept_if true true p e = refl
+kept_if false true p e = refl
+kept_if gnu false p e = absurd (false≢true e)
+
+pub kept_quiet : (table : Table) (r : Renaming) (u : UnitAnalysis) (first : Option Offence) (b : Bool) → b ≡ is_kept r u → b ≡ true
+    → FirstThen table (standing cause.Syntax (failing_by r u)) first first
+kept_quiet table r u first b is yes' =
+    subst (λ (ps : List Pos). FirstThen table (standing cause.Syntax ps) first first)
+    (sym (kept_if (is_gnu u.standard) (is_kept r u) (begin_of u.text.toks) (sym is ∙ yes'))) (then_none table first)
+
+pub no_failing : (a : AnalysisValue) (members : List Part) (name : List ℕ) → has_gnu a ≡ false → failing_places a members name ≡ []
+unfolding has_gnu failing_places
+no_failing a members name none =
+    no_elements (failing_by (renaming_of a members name)) a.units (λ k u at.
+    ap (λ (b : Bool). cond (b && not (is_kept (renaming_of a members name) u)) (begin_of u.text.toks ∷ []) [])
+    (none_there (λ (v : UnitAnalysis). is_gnu v.standard) a.units none k u at))
+
+-- ---- names by their numbers
+
+pub names_next_or : {X : Type 0} (f : X → List (List ℕ)) (xs : List X) (k : ℕ) (d : X) (a b c : List Token) → k < length xs
+    → AddTexts a (flat_map f (take k xs)) b → AddTexts b (f (get_or xs k d)) c → AddTexts a (flat_map f (take (k + 1) xs)) c
+names_next_or f xs k d a b c less before here = names_next f xs k (get_or xs k d) a b c (slice_get-get_or xs k d less) before here
+
+pub names_all : {X : Type 0} (f : X → List (List ℕ)) (xs : List X) (k : ℕ) (a b : List Token) → length xs ≤ k
+    → AddTexts a (flat_map f (take k xs)) b → AddTexts a (flat_map f xs) b
+names_all {X = X} f xs k a b past is = subst (λ (ys : List X). AddTexts a (flat_map f ys) b) (take_all k xs past) is
+
+-- the spellings of a unit's names
+pub symbols_same : (members : List Part) (u : UnitAnalysis) (names more : List Name) (toks : List Token) → toks ≡ u.text.toks → names ≡ u.bound.names → more ≡ u.bound.names
+    → flat_map (symbol_in members names toks) more ≡ symbols_in members u
+symbols_same members u names more toks t n m =
+    ap (λ (ts : List Token). flat_map (symbol_in members names ts) more) t
+    ∙ (ap (λ (ns : List Name). flat_map (symbol_in members ns u.text.toks) more) n ∙ ap (flat_map (symbol_in members u.bound.names u.text.toks)) m)
+
+-- ---- one unit more
+
+at_unit : (a : AnalysisValue) (k : ℕ) → k < length a.units → (u : UnitAnalysis) × (slice_get a.units k ≡ Some u) × (slice_get a.units (k + 1 - 1) ≡ Some u)
+at_unit a k less =
+    let u = there a.units k less in
+    let same : k + 1 - 1 ≡ k = omega arith in
+    (u.0, u.1, ap (slice_get a.units) same ∙ u.1)
+
+pub against_next : (a : AnalysisValue) (members : List Part) (name : List ℕ) (olds : List Token) (k : ℕ) (first before now : Option Offence) → k < length a.units
+    → HaveTexts olds (symbols a members) → FirstThen a.table (flat_map (unit_offences members name (symbols a members)) (take k a.units)) first before
+    → IsAgainstUnit a members name olds (k + 1) before now → FirstThen a.table (flat_map (unit_offences members name (symbols a members)) (take (k + 1) a.units)) first now
+against_next a members name olds k first before now less have so_far here =
+    let u = at_unit a k less in
+    offences_next a.table (unit_offences members name (symbols a members)) a.units k u.0 first before now u.1 so_far (here u.0 (symbols a members) u.2 have)
+
+pub failing_next : (a : AnalysisValue) (r : Renaming) (k : ℕ) (first before now : Option Offence) → k < length a.units
+    → FirstThen a.table (standing cause.Syntax (flat_map (failing_by r) (take k a.units))) first before → FailsIn a r (k + 1) before now
+    → FirstThen a.table (standing cause.Syntax (flat_map (failing_by r) (take (k + 1) a.units))) first now
+failing_next a r k first before now less so_far here =
+    let u = at_unit a k less in
+    unit_next a.table cause.Syntax (failing_by r) a.units k u.0 first before now u.1 so_far (here u.0 u.2)
+
+pub failing_all : (a : AnalysisValue) (members : List Part) (name : List ℕ) (r : Renaming) (k : ℕ) (first now : Option Offence) → length a.units ≤ k → r ≡ renaming_of a members name
+    → FirstThen a.table (standing cause.Syntax (flat_map (failing_by r) (take k a.units))) first now → FirstThen a.table (standing cause.Syntax (failing_places a members name)) first now
+unfolding failing_places
+failing_all a members name r k first now past same so_far =
+    then_all a.table cause.Syntax (failing_by (renaming_of a members name)) a.units k first now past
+    (subst (λ (q : Renaming). FirstThen a.table (standing cause.Syntax (flat_map (failing_by q) (take k a.units))) first now) same so_far)

@@ -1,0 +1,123 @@
+// Texts for the assembler that have a name of a class.
+ghost use Rattle.std.specs.Prelude.{◌≡◌, ◌-◌, ◌||◌, ◌++◌, [], IfOk, OnOk};
+ghost use Rattle.std.specs.List.{flat_map, list_any};
+ghost use Rattle.cs_base.specs.declared.causes.Cause.TheVariants as cause;
+ghost use Rattle.offences.specs.First.{standing, FirstThen};
+ghost use Rattle.rename_rules.specs.GnuOffences.{is_named, joined, text_toks, unquoted};
+ghost use Rattle.rename_rules.specs.GnuTexts.{at_place, text_place_in};
+ghost use Rattle.cs_base.specs.Token.{Token};
+
+use crate::renamings::Renaming;
+use crate::spelling::spelled;
+use analysis::Analysis;
+use cs_base::{Cause, Memory, Tok};
+use gnu_lists::{Adjacent, holds_word};
+use offences::{Offence, first_with};
+use std::alloc::Global;
+
+// A string without its quotes.
+fn unquoted(text: &[u8]) -> &[u8]
+    ensures { result.now ≡ unquoted text.now }
+{
+    if text.len() < 2 {
+        b""
+    } else {
+        &text[1..text.len() - 1]
+    }
+}
+
+// What strings side by side give to the assembler once members are respelled.
+fn joined(alloc: Global, renaming: &Renaming<'_>, toks: &[Tok]) -> Result<Vec<u8>, Memory>
+    ensures { IfOk result (λ text. text.items ≡ joined renaming.now.class.members renaming.now.name toks.now) }
+{
+    let mut out = Vec::new(alloc);
+    for tok in toks {
+        let text = spelled(alloc, renaming.class(), renaming.name(), tok)?;
+        out.extend_from_slice(unquoted(&text))?;
+    }
+    Ok(out)
+}
+
+// Whether a text has an old name as a word, or the new one.
+fn is_named(name: &[u8], text: &[u8], old: &[u8]) -> bool
+    ensures { result ≡ is_named name.now text.now old.now }
+{
+    holds_word(old, text) || holds_word(name, text)
+}
+
+// The same of one of these tokens' spellings.
+fn has_name(name: &[u8], text: &[u8], olds: &[Tok]) -> bool
+    ensures { result ≡ list_any (λ (t : Token). is_named name.now text.now t.text) olds.now }
+{
+    olds.iter().any(|tok| is_named(name, text, tok.text()))
+}
+
+// The tokens of a text.
+fn text_toks(toks: &[Tok], text: Adjacent) -> &[Tok]
+    ensures { result.now ≡ text_toks toks.now text }
+{
+    let from = text.from as usize;
+    let to = text.to as usize;
+    if from > to || from > toks.len() {
+        return &[];
+    }
+    let behind = &toks[from..];
+    let count = to - from;
+    if count > behind.len() {
+        behind
+    } else {
+        &behind[..count]
+    }
+}
+
+// `AssemblerText` where a token was brought.
+fn at_token(a: &Analysis, toks: &[Tok], k: u32, first: Option<Offence>) -> Option<Offence>
+    ensures { FirstThen a.now.value.table (standing cause.AssemblerText (at_place toks.now k)) first result }
+{
+    match toks.get(k as usize) {
+        Some(tok) => first_with(a, first, tok.at(), Cause::AssemblerText),
+        None => first,
+    }
+}
+
+// The same where a text begins, if it has a name of the class.
+fn in_text(
+    alloc: Global,
+    a: &Analysis,
+    renaming: &Renaming<'_>,
+    olds: &[Tok],
+    toks: &[Tok],
+    text: Adjacent,
+    first: Option<Offence>,
+) -> Result<Option<Offence>, Memory>
+    ensures { IfOk result (FirstThen a.now.value.table (standing cause.AssemblerText
+        (text_place_in renaming.now.class.members renaming.now.name olds.now toks.now text)) first) }
+{
+    let given = joined(alloc, renaming, text_toks(toks, text))?;
+    if has_name(renaming.name(), &given, olds) {
+        Ok(at_token(a, toks, text.from, first))
+    } else {
+        Ok(first)
+    }
+}
+
+/// `AssemblerText`: where each of these texts begins that has a name of the class; the old ones are the spellings of these
+/// tokens.
+pub(crate) fn in_texts(
+    alloc: Global,
+    a: &Analysis,
+    renaming: &Renaming<'_>,
+    olds: &[Tok],
+    toks: &[Tok],
+    texts: &[Adjacent],
+    first: Option<Offence>,
+) -> Result<Option<Offence>, Memory>
+    ensures { IfOk result (FirstThen a.now.value.table (standing cause.AssemblerText
+        (flat_map (text_place_in renaming.now.class.members renaming.now.name olds.now toks.now) texts.now)) first) }
+{
+    let mut now = first;
+    for text in texts {
+        now = in_text(alloc, a, renaming, olds, toks, *text, now)?;
+    }
+    Ok(now)
+}

@@ -1,0 +1,166 @@
+// What stands against a renaming in units of GNU C: names that denote nothing, and texts for the assembler.
+ghost use Rattle.std.specs.Prelude.{◌≡◌, ◌≤◌, IfOk, is_some, length};
+ghost use Rattle.std.specs.List.{flat_map, list_any};
+ghost use Rattle.cs_base.specs.declared.causes.Cause.TheVariants as cause;
+ghost use Rattle.offences.specs.First.{standing, FirstThen};
+ghost use Rattle.offences.specs.Tokens.{holds_member};
+ghost use Rattle.rename_rules.specs.GnuOffences.{has_gnu, gnu_offences};
+ghost use Rattle.rename_rules.specs.GnuTexts.{idle, told_in, word_place_in};
+ghost use Rattle.rename_rules.specs.GnuUnits.{IsAgainstUnit};
+
+use crate::gnu_texts::in_texts;
+use crate::member_offences::in_token;
+use crate::renamings::Renaming;
+use crate::symbols::symbols;
+use analysis::{Analysis, Bound};
+use cs_base::{Cause, Memory, Tok};
+use gnu_lists::{Lists, lists_of};
+use offences::{Class, Offence, holds_member};
+use std::alloc::Global;
+
+/// Whether some unit is of GNU C.
+pub(crate) fn has_gnu(a: &Analysis) -> bool
+    ensures { result ≡ has_gnu a.now.value }
+{
+    for unit in 0..a.units() {
+        if a.gnu_begin(unit + 1).is_some() {
+            return true;
+        }
+    }
+    false
+}
+
+// `Reserved` at each member in token `k`, if that denotes nothing.
+fn in_word(
+    a: &Analysis,
+    class: &Class<'_>,
+    bound: &Bound,
+    toks: &[Tok],
+    k: u32,
+    first: Option<Offence>,
+) -> Option<Offence>
+    ensures { FirstThen a.now.value.table (standing cause.Reserved (word_place_in class.now.members bound.now.names toks.now k)) first result }
+{
+    if bound.entity(k).is_some() {
+        return first;
+    }
+    match toks.get(k as usize) {
+        Some(tok) => in_token(a, class, tok, Cause::Reserved, first),
+        None => first,
+    }
+}
+
+// The same at each of these tokens.
+fn in_words(
+    a: &Analysis,
+    class: &Class<'_>,
+    bound: &Bound,
+    toks: &[Tok],
+    places: &[u32],
+    first: Option<Offence>,
+) -> Option<Offence>
+    ensures { FirstThen a.now.value.table (standing cause.Reserved (flat_map (word_place_in class.now.members bound.now.names toks.now) places.now)) first result }
+{
+    let mut now = first;
+    for k in places {
+        now = in_word(a, class, bound, toks, *k, now);
+    }
+    now
+}
+
+// Both offences in a unit whose tree tells these lists.
+fn in_lists(
+    alloc: Global,
+    a: &Analysis,
+    renaming: &Renaming<'_>,
+    olds: &[Tok],
+    bound: &Bound,
+    toks: &[Tok],
+    lists: &Lists,
+    first: Option<Offence>,
+) -> Result<Option<Offence>, Memory>
+    ensures { IfOk result (FirstThen a.now.value.table (told_in renaming.now.class.members renaming.now.name olds.now bound.now.names toks.now lists.now) first) }
+{
+    let words = in_words(a, renaming.class(), bound, toks, lists.places(), first);
+    in_texts(alloc, a, renaming, olds, toks, lists.texts(), words)
+}
+
+// Whether one of the tokens holds a member.
+fn is_held(class: &Class<'_>, toks: &[Tok]) -> bool
+    ensures { result ≡ list_any (holds_member class.now.members) toks.now }
+{
+    toks.iter().any(|tok| holds_member(class, tok))
+}
+
+// The assembler knows nothing of the class, and none of the tokens holds a member.
+fn is_idle(class: &Class<'_>, olds: &[Tok], toks: &[Tok]) -> bool
+    ensures { result ≡ idle class.now.members olds.now toks.now }
+{
+    match olds {
+        [] => !is_held(class, toks),
+        [_, ..] => false,
+    }
+}
+
+// Both offences in a unit, whose tree is read again: none where the unit is not of GNU C, and none where it has no member and
+// the assembler knows nothing of the class.
+fn in_unit(
+    alloc: Global,
+    a: &Analysis,
+    renaming: &Renaming<'_>,
+    olds: &[Tok],
+    unit: u32,
+    first: Option<Offence>,
+) -> Result<Option<Offence>, Memory>
+    requires start { 1 ≤ unit }
+    requires end { unit ≤ length a.now.value.units }
+    ensures { IfOk result (λ now. IsAgainstUnit a.now.value renaming.now.class.members renaming.now.name olds.now unit first now) }
+{
+    if a.gnu_begin(unit).is_none() {
+        return Ok(first);
+    }
+    let toks = a.text(unit).toks();
+    if is_idle(renaming.class(), olds, toks) {
+        return Ok(first);
+    }
+    let tree = a.tree(alloc, unit)?;
+    let lists = lists_of(alloc, toks, &tree)?;
+    in_lists(alloc, a, renaming, olds, a.bound(unit), toks, &lists, first)
+}
+
+// Both offences in all units.
+fn in_units(
+    alloc: Global,
+    renaming: &Renaming<'_>,
+    first: Option<Offence>,
+) -> Result<Option<Offence>, Memory>
+    ensures { IfOk result (FirstThen renaming.now.class.analysis.value.table
+        (gnu_offences renaming.now.class.analysis.value renaming.now.class.members renaming.now.name) first) }
+{
+    let class = renaming.class();
+    let a = class.analysis();
+    let olds = symbols(alloc, class)?;
+    let mut now = first;
+    for unit in 0..a.units() {
+        now = in_unit(alloc, a, renaming, &olds, unit + 1, now)?;
+    }
+    Ok(now)
+}
+
+/// `Reserved` at each member in a name that denotes nothing, as that of an attribute, and `AssemblerText` where a text for the
+/// assembler begins that has a name of the class, in each unit of GNU C.
+pub fn gnu_offences(
+    alloc: Global,
+    renaming: &Renaming<'_>,
+    first: Option<Offence>,
+) -> Result<Option<Offence>, Memory>
+    ensures { IfOk result (FirstThen renaming.now.class.analysis.value.table
+        (gnu_offences renaming.now.class.analysis.value renaming.now.class.members renaming.now.name) first) }
+{
+    let a = renaming.class().analysis();
+    if has_gnu(a) {
+        in_units(alloc, renaming, first)
+    } else {
+        Ok(first)
+    }
+}

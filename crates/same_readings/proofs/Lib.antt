@@ -1,0 +1,4 @@
+mod TreeLemmas
+mod NameLemmas
+-- For callers.
+pub mod ReadingLemmas

@@ -1,0 +1,6 @@
+-- What the public contracts rest on.
+pub mod Numbers
+pub mod SameTrees
+pub mod SameNames
+pub mod Readings
+pub mod Laws

@@ -1,0 +1,4 @@
+pub mod StopLemmas
+pub mod HeldLemmas
+pub mod UnitLemmas
+pub mod CountLemmas

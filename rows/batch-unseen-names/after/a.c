@@ -1,0 +1,4 @@
+int total;
+#if 0
+count
+#endif

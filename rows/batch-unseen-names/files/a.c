@@ -1,0 +1,4 @@
+int count;
+#if 0
+count
+#endif

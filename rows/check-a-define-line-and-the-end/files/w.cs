@@ -1,0 +1,3 @@
+define N y
+file a.c
+file b.c

@@ -1,0 +1,3 @@
+#define M (
+
+int f(void) { return M; }

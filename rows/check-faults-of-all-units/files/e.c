@@ -1,0 +1,2 @@
+#include "h.h"
+int k(void) { return X(1); }

@@ -1,0 +1,5 @@
+file a.c
+file b.c
+file c.c
+file d.c
+file e.c

@@ -1,0 +1,2 @@
+int here;
+int x;

@@ -1,0 +1,1 @@
+file b c.c

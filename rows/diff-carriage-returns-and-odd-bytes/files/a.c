@@ -1,0 +1,3 @@
+int x;
+int here;
+/* ÿ	 */

@@ -1,0 +1,12 @@
+/* 1 */
+/* 2 */
+/* 3 */
+extern int here;
+extern int here;
+extern int here;
+/* 7 */
+/* 8 */
+/* 9 */
+/* 10 */
+/* 11 */
+/* 12 */

@@ -1,0 +1,2 @@
+#include "o.h"
+int b;

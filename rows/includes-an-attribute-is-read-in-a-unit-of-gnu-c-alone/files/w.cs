@@ -1,0 +1,4 @@
+standard gnu99
+file a.c
+project p
+file a.c

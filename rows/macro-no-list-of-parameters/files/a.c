@@ -1,0 +1,2 @@
+#define Z() 1
+int x = Z();

@@ -1,0 +1,2 @@
+define SUB(a, b) ((a) - (b))
+file a.c

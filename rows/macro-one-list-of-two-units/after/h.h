@@ -1,0 +1,2 @@
+#define SUB(b, a) ((a) - (b))
+static const int k = SUB(6, 5);

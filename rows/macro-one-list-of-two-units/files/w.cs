@@ -1,0 +1,2 @@
+file a.c
+file b.c

@@ -1,0 +1,2 @@
+#include "h.h"
+int x = SUB(1, 2);

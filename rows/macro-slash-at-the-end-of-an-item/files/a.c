@@ -1,0 +1,3 @@
+#define SUB(a, b) ((a) - (b))
+#define DROP(...)
+int x = SUB(1, 2 DROP(SUB(1 /, 2)));

@@ -1,0 +1,2 @@
+standard gnu99
+file b.c

@@ -1,0 +1,3 @@
+#define N packed
+int N;
+struct __attribute__((N)) s { char c; int i; };

@@ -1,0 +1,3 @@
+#define S(x) #x
+#define T(y) S(\y)
+char *a = T(v);

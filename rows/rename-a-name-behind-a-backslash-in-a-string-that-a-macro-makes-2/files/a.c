@@ -1,0 +1,3 @@
+#define S(x) #x
+#define T(x) S(\x)
+char *a = T(v);

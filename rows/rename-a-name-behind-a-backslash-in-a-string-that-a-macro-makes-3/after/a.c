@@ -1,0 +1,2 @@
+#define S(x) #x
+char *a = S(\\u);

@@ -1,0 +1,2 @@
+int typeof, asm;
+int f(void) { return typeof + asm; }

@@ -1,0 +1,3 @@
+file a.c
+standard gnu99
+file b.c

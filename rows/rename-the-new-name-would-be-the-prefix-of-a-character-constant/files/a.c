@@ -1,0 +1,2 @@
+#define n 1 +
+int k = n'a';

@@ -1,0 +1,2 @@
+#define FMT "%d"
+char *s = FMT "x";

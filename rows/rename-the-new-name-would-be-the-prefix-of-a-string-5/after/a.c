@@ -1,0 +1,2 @@
+#define v "%d"
+char *s = v"x";

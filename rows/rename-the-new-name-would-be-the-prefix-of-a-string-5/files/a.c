@@ -1,0 +1,2 @@
+#define u "%d"
+char *s = u"x";

@@ -1,0 +1,5 @@
+#define FMT "%d"
+#ifdef FMT
+#else
+char *s = FMT"x";
+#endif

@@ -1,0 +1,2 @@
+#include "lib/l.h"
+int count;

@@ -1,0 +1,2 @@
+readonly lib/
+file a.c

@@ -1,0 +1,3 @@
+#ifdef X
+extern int count;
+#endif

@@ -1,0 +1,3 @@
+file a.c
+define X 1
+file b.c

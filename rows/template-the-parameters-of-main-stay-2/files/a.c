@@ -1,0 +1,2 @@
+#include "h.h"
+int g(void) { return main(1, 0); }

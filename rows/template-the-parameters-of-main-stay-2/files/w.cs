@@ -1,0 +1,2 @@
+readonly h.h
+file a.c

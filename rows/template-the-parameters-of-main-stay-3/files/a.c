@@ -1,0 +1,1 @@
+int main_(int a, char *b);

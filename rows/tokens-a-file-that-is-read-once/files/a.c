@@ -1,0 +1,4 @@
+#include "o.h"
+int a;
+#include "./o.h"
+int b;

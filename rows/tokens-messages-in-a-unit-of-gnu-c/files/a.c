@@ -1,0 +1,4 @@
+#warning don't look
+#ident "x"
+#sccs "y"
+int a;

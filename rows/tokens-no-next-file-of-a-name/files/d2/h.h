@@ -1,0 +1,2 @@
+in_d2
+#include_next "h.h"

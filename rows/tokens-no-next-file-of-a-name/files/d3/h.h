@@ -1,0 +1,2 @@
+in_d3
+#include_next <h.h>

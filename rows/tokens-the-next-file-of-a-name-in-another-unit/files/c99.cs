@@ -1,0 +1,3 @@
+ipath d1
+ipath d2
+file a.c

@@ -1,0 +1,2 @@
+in_d1
+#include_next <h.h>

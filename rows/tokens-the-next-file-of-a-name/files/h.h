@@ -1,0 +1,2 @@
+beside
+#include_next <h.h>

@@ -1,0 +1,3 @@
+#define H "h.h"
+#include H
+int x;

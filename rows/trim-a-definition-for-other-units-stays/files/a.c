@@ -1,0 +1,2 @@
+#include "i.h"
+int x;

@@ -1,0 +1,3 @@
+int a[] = {
+#include "t.inc"
+};

@@ -1,0 +1,2 @@
+int proto(void);
+int f(int n) { return n; }

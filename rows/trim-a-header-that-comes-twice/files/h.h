@@ -1,0 +1,4 @@
+#ifndef H
+#define H
+extern int y;
+#endif

@@ -1,0 +1,2 @@
+#include "h.h"
+static int g;

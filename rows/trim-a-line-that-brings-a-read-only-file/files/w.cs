@@ -1,0 +1,3 @@
+readonly ro/
+ipath ro
+file a.c

@@ -1,0 +1,1 @@
+#define ONLY(x) x

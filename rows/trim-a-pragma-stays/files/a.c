@@ -1,0 +1,2 @@
+#include "h.h"
+struct s { char c; int i; };

@@ -1,0 +1,2 @@
+define OTHER A
+file a.c

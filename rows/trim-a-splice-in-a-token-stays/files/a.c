@@ -1,0 +1,3 @@
+#inc\
+lude "h.h"
+int x;

@@ -1,0 +1,2 @@
+standard c11
+file a.c

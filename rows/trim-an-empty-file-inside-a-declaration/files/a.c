@@ -1,0 +1,3 @@
+int
+#include "h.h"
+x;

@@ -1,0 +1,1 @@
+int extern y, *z = 0;

@@ -1,0 +1,3 @@
+/* a */ # /* b */ include \
+ "h.h" // c
+int x;

@@ -1,0 +1,2 @@
+#include "h.h"
+char *s = "ONLY";

@@ -1,0 +1,4 @@
+#define DATA
+int a[] = {
+#include "g.h"
+};

@@ -1,0 +1,5 @@
+#ifdef DATA
+1, 2
+#else
+static int s;
+#endif

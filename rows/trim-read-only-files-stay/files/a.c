@@ -1,0 +1,2 @@
+#include "ro/g.h"
+int x = G;

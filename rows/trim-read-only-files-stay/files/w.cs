@@ -1,0 +1,2 @@
+readonly ro/
+file a.c

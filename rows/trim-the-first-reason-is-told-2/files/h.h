@@ -1,0 +1,2 @@
+#pragma p
+int shared, more;

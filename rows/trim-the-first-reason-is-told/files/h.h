@@ -1,0 +1,3 @@
+#pragma p
+int shared;
+#define A 1

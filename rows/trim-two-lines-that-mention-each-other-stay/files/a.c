@@ -1,0 +1,3 @@
+#include "g.h"
+#include "h.h"
+int x;

@@ -1,0 +1,2 @@
+int z;
+#include "h.h"

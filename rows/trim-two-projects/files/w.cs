@@ -1,0 +1,4 @@
+project p
+file a.c
+project q
+file b.c
