@@ -10,9 +10,6 @@ from record import Refused
 # What a condition asks the compiler of attributes and built-ins, and the operands of such questions.
 ASKED = ("__has_attribute", "__has_builtin", "__has_c_attribute", "__has_cpp_attribute")
 OPERAND = re.compile(rb"(?i)has_(?:builtin|(?:c_|cpp_)?attribute)\s*\(\s*(\w+)\s*\)")
-# A condition, and what asks for a header in it: the word, and the name as it is written.
-CONDITION = re.compile(rb"^[ \t]*#[ \t]*(?:el)?if\b.*__has_include.*$", re.M)
-ASKS_HEADER = re.compile(rb"\b(__has_include(?:_next)?)[ \t]*\([ \t]*(<[^>\n]*>|\"[^\"\n]*\"|)")
 MACHINES = (("__ILP32__", "other"), ("__x86_64__", "x86_64"), ("__aarch64__", "aarch64"), ("__i386__", "i386"))
 
 
@@ -133,27 +130,6 @@ class Compilers:
         names |= {f"__{name}__" for name in names if not name.startswith("_")} | {name.strip("_") for name in names} - {""}
         return self._affirmed(entry, frozenset(names))
 
-    def headers_asked(self, entry):
-        """The files of the unit in which a condition asks for a header, and what the compiler answers: True or False where that is
-        the same for all that are asked for, and else None."""
-        asking = {path: self._text_of(path)[1] for path in self._files(entry)}
-        asking = {path: asked for path, asked in asking.items() if asked}
-        answers = {self._is_header(entry, path, word, name) for path, asked in asking.items() for word, name in asked}
-        return list(asking), answers.pop() if len(answers) == 1 else None
-
-    def _is_header(self, entry, path, word, name):
-        """None where the name is not written, or another directory is asked than those of any file."""
-        if not name or word != "__has_include":
-            return None
-        if name.startswith('"') and os.path.isfile(os.path.join(os.path.dirname(path), name[1:-1])):
-            return True
-        key = entry.compiler, entry.directory, tuple(entry.options.asking), name
-        if key not in self.answers:
-            compiler = os.path.join(entry.directory, entry.compiler) if "/" in entry.compiler else entry.compiler
-            said = _run([compiler, *entry.options.asking, "-w", "-E", "-P", "-x", "c", "-"], entry.directory, f"#if __has_include({name})\nthere\n#endif\n")
-            self.answers[key] = "there" in said.stdout.split()
-        return self.answers[key]
-
     def _files(self, entry):
         """The unit's file and all that it includes, as the compiler names them."""
         if entry.number not in self.included:
@@ -162,19 +138,12 @@ class Compilers:
         return self.included[entry.number]
 
     def _asked_in(self, path):
-        return self._text_of(path)[0]
-
-    def _text_of(self, path):
-        """The operands of a file, and the headers for which its conditions ask."""
         if path not in self.operands:
             try:
                 with open(path, "rb") as file:
-                    text = file.read()
-                asked = {(word.decode(), os.fsdecode(name)) for line in CONDITION.findall(text.replace(b"\\\n", b""))
-                         for word, name in ASKS_HEADER.findall(line)}
-                self.operands[path] = {name.decode() for name in OPERAND.findall(text)}, asked
+                    self.operands[path] = {name.decode() for name in OPERAND.findall(file.read())}
             except OSError:
-                self.operands[path] = set(), set()
+                self.operands[path] = set()
         return self.operands[path]
 
     def _affirmed(self, entry, names):

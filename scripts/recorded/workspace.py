@@ -131,18 +131,10 @@ def gnu_folders(entry, answer, root):
             for folders in (answer.quote, answer.angle)]
 
 
-def headers_settings(asks, known):
-    """The settings of the words by which a unit asks for headers, where it does: the answer, or none of them is defined."""
-    if not asks:
-        return {}
-    return {name: (name, None) if known is None else (f"{name}(__cscout_c)", str(int(known))) for name in HEADERS_ASKED}
-
-
-def gnu_settings(entry, answer, affirmed, headers, added):
-    """What the settings of a unit of GNU C come to: all macros of the compiler, the lines that answer what the unit asks, among them
-    those of `headers`, the command's own, and what the caller adds."""
-    result = dict(headers)
-    result.update((name_of(head), tuple(own_parameters(head, body))) for head, body in answer.macros if name_of(head) not in FIRST)
+def gnu_settings(entry, answer, affirmed, added):
+    """What the settings of a unit of GNU C come to: all macros of the compiler, the lines that answer what the unit asks, the
+    command's own, and what the caller adds."""
+    result = {name_of(head): tuple(own_parameters(head, body)) for head, body in answer.macros if name_of(head) not in FIRST}
     for kind, text in [("define", text) for text in affirmed] + entry.options.settings + added:
         head, body = head_and_body(text)
         result.pop(name_of(head), None)
@@ -188,7 +180,7 @@ def looked_for(paths, workspace):
 
 
 def _define(head, body):
-    return f"undefine {head}" if body is None else f"define {head} {body}".rstrip(" \t")
+    return f"define {head} {body}".rstrip(" \t")
 
 
 def _undefine(head):

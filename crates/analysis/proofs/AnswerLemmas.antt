@@ -4,6 +4,7 @@ use Rattle.std.specs.Prelude.{IfSome, OnOk}
 use Rattle.std.specs.Option.{option_map}
 use Rattle.cs_base.specs.Answer.{Gives, result_then, result_map_err}
 use Rattle.cs_base.specs.Units.{UnitValue, IsUnit}
+use Rattle.cs_base.proofs.ListLemmas.{read_at as slice_get-at}
 use Rattle.include_tree.specs.Below.source_files.declared.pre_fault.PreFault.{PreFault}
 use Rattle.include_tree.specs.Below.source_files.declared.pre_fault.PreFault.TheVariants as unit
 use Rattle.include_tree.specs.Below.source_files.Answers as pre
@@ -13,7 +14,6 @@ use Rattle.include_tree.specs.Below.unit_steps.Texts.{UnitTextValue}
 use Rattle.include_tree.specs.Preprocessed.{Preprocessed, with_text, preprocessed}
 use Rattle.include_tree.specs.Below.source_files.Tables.{AreFound, HasEachOnce}
 use Rattle.include_tree.proofs.Below.source_files.AgreeLemmas.{some_source}
-use Rattle.include_tree.proofs.Below.source_files.FileTableLemmas.{slice_get-at}
 use Rattle.analysis.specs.declared.analyse_fault.AnalyseFault.{AnalyseFault}
 use Rattle.analysis.specs.declared.analyse_fault.AnalyseFault.TheVariants as answer
 use Rattle.analysis.specs.Texts.{UnitFault, unit_fault, unit_with, unit_at, alone, one_text_of}

@@ -4,6 +4,7 @@ use Rattle.std.specs.Prelude.{IfSome}
 use Rattle.cs_base.specs.Outside.{FileMap}
 use Rattle.cs_base.specs.Units.{UnitValue, IsUnit}
 use Rattle.cs_base.specs.Token.{Token}
+use Rattle.cs_base.proofs.BoolLemmas.{and_not-false as not_pseudo}
 use Rattle.lexer.specs.FileText.{file_text}
 use Rattle.include_tree.specs.Below.source_files.Limits.{the_limits}
 use Rattle.include_tree.specs.Below.source_files.Faults.{Fault}
@@ -15,7 +16,6 @@ use Rattle.include_tree.specs.Laws.{IfDone}
 use Rattle.include_tree.specs.Below.source_files.Tables.{AreFound, StaysHeld}
 use Rattle.include_tree.specs.PseudoFiles.{is_pseudo}
 use Rattle.include_tree.proofs.PseudoLemmas.{others_stay}
-use Rattle.include_tree.proofs.StayLemmas.{not_pseudo}
 use Rattle.analysis.specs.Carrying.{IsFresh, IsOver}
 
 ok_holds : (P : Preprocessed → Type 0) (a b : Preprocessed) → ◌≡◌ {A = Result Preprocessed Fault} (Ok a) (Ok b) → P a → P b

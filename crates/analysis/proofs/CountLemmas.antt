@@ -5,6 +5,7 @@ use Rattle.std.proofs.lemmas.List.Elements.{All-head, All-tail}
 use Rattle.cs_base.specs.declared.ws_units.Standard.{Standard}
 use Rattle.cs_base.specs.Token.{Token}
 use Rattle.cs_base.specs.Units.{UnitValue, IsUnit}
+use Rattle.cs_base.proofs.AnswerLemmas.{map_err_ok as unmapped}
 use Rattle.lexer.specs.FileText.{file_text}
 use Rattle.include_tree.specs.Below.source_files.Limits.{the_limits}
 use Rattle.include_tree.specs.Below.source_files.Faults.{Fault}
@@ -21,7 +22,7 @@ use Rattle.analysis.specs.Carrying.{IsFresh}
 use Rattle.analysis.specs.Texts.{UnitFault, unit_fault, unit_with}
 use Rattle.analysis.proofs.CarryLemmas.{fresh_first, fresh_on}
 use Rattle.analysis.specs.Counts.{tokens_in, TokensAreFew}
-use Rattle.analysis.proofs.MadeLemmas.{ok_holds, done_first, unmapped}
+use Rattle.analysis.proofs.MadeLemmas.{ok_holds, done_first}
 
 -- what a unit adds to the count
 abbrev Counts : ℕ → Preprocessed → Type 0

@@ -6,6 +6,7 @@ use Rattle.std.proofs.lemmas.List.{at_drop_more, at_drop_all, append-nil, map-ap
 use Rattle.std.proofs.lemmas.Option.{none-some, same_Some, slice_get-get_or, slice_get-map}
 use Rattle.cs_base.specs.declared.positions.Part.{Part}
 use Rattle.cs_base.specs.Token.{Token}
+use Rattle.cs_base.proofs.ListLemmas.{in_front as pushed_old}
 use Rattle.eclass_map.specs.ClassTable.{Table as Classes, added_tokens}
 use Rattle.include_tree.specs.Below.source_files.Files.{Table, Entry, Absent, entry}
 use Rattle.include_tree.specs.Below.source_files.KeptFiles.{kept_at}
@@ -13,7 +14,7 @@ use Rattle.analysis.specs.Analysis.{AnalysisValue}
 use Rattle.analysis.specs.BroughtNumbers.{AreNumbers, all_brought}
 use Rattle.analysis.specs.Classes.{HasFileTokens}
 use Rattle.analysis.specs.FileTokens.{file_tokens, kept_tokens, span_of, table_tokens}
-use Rattle.analysis.proofs.PushedLemmas.{pushed_old, behind_at, either_at}
+use Rattle.analysis.proofs.PushedLemmas.{behind_at, either_at}
 
 -- ---- file by file
 

@@ -18,7 +18,7 @@ use Rattle.analysis.specs.Links.{is_bound_to, first_occurrence, occurrence_link,
 bound_none : (names : List Name) (e k : ℕ) → entity_at names k ≡ None → is_bound_to names e k ≡ false
 bound_none names e k h = ap (λ (v : Option ℕ). option_map_or (λ (d : ℕ). eqb d e) v false) h
 
-bound_same : (names : List Name) (e k : ℕ) → entity_at names k ≡ Some e → is_bound_to names e k ≡ true
+pub bound_same : (names : List Name) (e k : ℕ) → entity_at names k ≡ Some e → is_bound_to names e k ≡ true
 bound_same names e k h = ap (λ (v : Option ℕ). option_map_or (λ (d : ℕ). eqb d e) v false) h ∙ eq-eqb e e refl
 
 bound_other : (names : List Name) (e d k : ℕ) → entity_at names k ≡ Some d → (e ≡ d → ⊥) → is_bound_to names e k ≡ false

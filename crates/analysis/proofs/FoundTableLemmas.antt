@@ -2,8 +2,8 @@
 use Rattle.std.proofs.Common.{◌≡◌, ℕ, ◌+◌, ◌-◌, List, [], ◌∷◌, Ok, Err}
 use Rattle.cs_base.specs.Token.{Token}
 use Rattle.cs_base.specs.Units.{UnitValue, defines_of}
+use Rattle.cs_base.proofs.AnswerLemmas.{map_err_ok as unmapped}
 use Rattle.lexer.specs.FileText.{file_text}
-use Rattle.ws_file.specs.Workspace.{WorkspaceValue}
 use Rattle.include_tree.specs.Below.source_files.Faults.{Fault, first_place}
 use Rattle.include_tree.specs.Below.source_files.Files.{Source, SourceFile, Made, Table, Carried, nothing_carried, numbered, asked, defines_path}
 use Rattle.include_tree.specs.Below.source_files.Limits.{Limits, the_limits}
@@ -22,7 +22,7 @@ use Rattle.include_tree.proofs.StayingWalk.{files_stay}
 use Rattle.analysis.specs.Texts.{UnitFault, unit_fault, unit_with}
 use Rattle.analysis.specs.Analysis.{UnitsValue, AnalysisValue, analysis_and, with_unit, unit_read, analysed_from}
 use Rattle.analysis.specs.Tables.{TablesAreFound}
-use Rattle.analysis.proofs.MadeLemmas.{ok_holds, done_first, unmapped}
+use Rattle.analysis.proofs.MadeLemmas.{ok_holds, done_first}
 
 found_push : (source : Source) (t : Table) (path bytes : List ℕ) → AreFound source t → AreFound source (numbered path (Made bytes) t)
 found_push source [] path bytes h = (tt, tt)

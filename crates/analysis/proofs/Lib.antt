@@ -33,3 +33,4 @@ pub mod OnceLemmas
 pub mod FoundTableLemmas
 -- Words of the crates below, passed on.
 pub mod Below
+pub mod TableLemmas

@@ -2,9 +2,10 @@
 use Rattle.std.proofs.Common.{◌≡◌, ℕ, ◌+◌, ◌-◌, cond, is_some, List, [], ◌∷◌, Option, None, Some, Result, Ok, Err, refl, subst, inl, inr}
 use Rattle.std.specs.Str.{bytes_eq}
 use Rattle.std.proofs.lemmas.Bool.{cases_Bool}
-use Rattle.cs_base.specs.Answer.{result_then, result_map_err}
+use Rattle.cs_base.specs.Answer.{result_then}
 use Rattle.cs_base.specs.Token.{Token}
 use Rattle.cs_base.specs.Units.{UnitValue, defines_of}
+use Rattle.cs_base.proofs.AnswerLemmas.{map_err_ok as unmapped}
 use Rattle.lexer.specs.FileText.{file_text}
 use Rattle.ws_file.specs.Workspace.{WorkspaceValue}
 use Rattle.include_tree.specs.Below.source_files.Faults.{Fault, first_place}
@@ -97,10 +98,6 @@ made_after source number unit before p h e =
 pub done_first : {X Y E : Type 0} (r : Result X E) (next : X → Result Y E) (y : Y) → result_then next r ≡ Ok y → (x : X) × (r ≡ Ok x) × (next x ≡ Ok y)
 done_first (Ok x) next y e = (x, refl, e)
 done_first (Err fault) next y e = absurd cc
-
-pub unmapped : {X E F : Type 0} (r : Result X E) (change : E → F) (x : X) → result_map_err change r ≡ Ok x → r ≡ Ok x
-unmapped (Ok y) change x e = let same : y ≡ x = cc in rw same refl
-unmapped (Err fault) change x e = absurd cc
 
 units_made : (source : Source) (number : ℕ) (units : List UnitValue) (before : Carried) (v : UnitsValue) → MadeArePseudo before.table
     → analysed_from source number units before ≡ Ok v → MadeArePseudo v.table

@@ -4,7 +4,7 @@ use Rattle.std.specs.Prelude.{◌||◌, slice_get, slice_range}
 use Rattle.std.specs.List.{filter, flat_map, list_any}
 use Rattle.std.specs.Option.{option_map_or, option_and_then}
 use Rattle.std.proofs.lemmas.Option.{same_Some}
-use Rattle.cs_base.specs.declared.tokens.Kind.{Kind}
+use Rattle.macro_expand.proofs.Below.macro_body.Below.line_shape.SignLemmas.{name_kept}
 use Rattle.cs_base.specs.declared.tokens.Kind.TheVariants as token_kind
 use Rattle.cs_base.specs.declared.positions.Pos.{Pos}
 use Rattle.cs_base.specs.Token.{Token, has_origins}
@@ -13,7 +13,7 @@ use Rattle.include_tree.specs.Below.line_shape.declared.items.ItemKind.{ItemKind
 use Rattle.include_tree.specs.Below.line_shape.declared.items.ItemKind.TheVariants as kind
 use Rattle.include_tree.specs.Below.line_shape.declared.items.GnuLine.TheVariants as gnu
 use Rattle.include_tree.specs.Below.line_shape.Items.{items_of}
-use Rattle.include_tree.specs.Below.line_shape.Signs.{is_name, is_identifier}
+use Rattle.include_tree.specs.Below.line_shape.Signs.{is_name}
 use Rattle.include_tree.specs.Below.source_files.Files.{Table}
 use Rattle.include_tree.specs.Below.source_files.HeaderNames.{is_header, begins_header}
 use Rattle.include_tree.specs.Below.source_files.KeptFiles.{KeptValue, kept_in, kept_at}
@@ -166,16 +166,6 @@ named_item evaluated toks firsts k t (Some x) e i =
     (item_in toks firsts k x t e (nameable_in x.kind evaluated t x.toks f.0), f.1)
 
 -- ---- files
-
--- an identifier has a part
-name_kept : (k : Kind) → is_identifier k ≡ true → has_origins k ≡ true
-name_kept token_kind.Ident e = refl
-name_kept token_kind.Number e = refl
-name_kept token_kind.Char e = absurd (cc)
-name_kept token_kind.Str e = absurd (cc)
-name_kept token_kind.Punct e = absurd (cc)
-name_kept token_kind.Other e = absurd (cc)
-name_kept token_kind.Header e = absurd (cc)
 
 -- an identifier of a kept file, of which the table tells
 record KeptName (table : Table) (t : Token) : Type 0 where

@@ -5,9 +5,10 @@ use Rattle.std.specs.List.Sorted.{IsPermutation}
 use Rattle.std.proofs.lemmas.List.Sorted.{Contains-permutation, IsPermutation-sym}
 use Rattle.std.proofs.lemmas.Option.{slice_get-get_or, slice_get_within, get_or_from_slice_get}
 use Rattle.cs_base.specs.Token.{Token}
+use Rattle.cs_base.proofs.ListLemmas.{in_front as pushed_old}
 use Rattle.analysis.specs.FileTokens.{span_of}
 use Rattle.analysis.specs.BroughtNumbers.{IsAmong, StandsFor, AreInOrder, AreNumbers, ComesBehind, AddsOnce}
-use Rattle.analysis.proofs.PushedLemmas.{pushed_cases, pushed_old, pushed_own}
+use Rattle.analysis.proofs.PushedLemmas.{pushed_cases, pushed_own}
 
 -- ---- tokens of a list
 

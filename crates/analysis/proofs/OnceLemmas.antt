@@ -1,15 +1,16 @@
 -- Each path has one number in the table of an analysis, since it has from unit to unit.
-use Rattle.std.proofs.Common.{◌≡◌, ◌≤◌, ◌+◌, ◌^◌, ℕ, List, [], ◌∷◌, None, Ok, Err, length, refl, subst, arith}
+use Rattle.std.proofs.Common.{◌≡◌, ◌≤◌, ◌+◌, ◌^◌, ℕ, List, [], ◌∷◌, None, Ok, Err, length, refl, arith}
 use Rattle.std.specs.Prelude.{All}
 use Rattle.std.proofs.lemmas.List.Elements.{All-head, All-tail}
 use Rattle.cs_base.specs.Token.{Token}
 use Rattle.cs_base.specs.Units.{UnitValue, IsUnit}
+use Rattle.cs_base.proofs.AnswerLemmas.{map_err_ok as unmapped}
 use Rattle.lexer.specs.FileText.{file_text}
 use Rattle.include_tree.specs.Below.source_files.Limits.{the_limits}
 use Rattle.include_tree.specs.Below.source_files.Faults.{Fault}
 use Rattle.include_tree.specs.Below.source_files.Files.{Source, Carried, nothing_carried, found_at, defines_path}
 use Rattle.include_tree.specs.Below.source_files.Tables.{HasEachOnce}
-use Rattle.include_tree.specs.Below.unit_steps.State.{Outcome, State, context}
+use Rattle.include_tree.specs.Below.unit_steps.State.{Outcome, context}
 use Rattle.include_tree.specs.Unit.{unit_outcome}
 use Rattle.include_tree.specs.Preprocessed.{Preprocessed, preprocessed, preprocessed_by}
 use Rattle.include_tree.specs.Laws.{IfDone, UnitEnds}
@@ -20,7 +21,7 @@ use Rattle.analysis.specs.Texts.{UnitFault, unit_fault, unit_with}
 use Rattle.analysis.proofs.CarryLemmas.{fresh_first, fresh_on}
 use Rattle.analysis.specs.Tables.{PathsStandOnce}
 use Rattle.analysis.proofs.CountLemmas.{few_done}
-use Rattle.analysis.proofs.MadeLemmas.{ok_holds, done_first, unmapped}
+use Rattle.analysis.proofs.MadeLemmas.{ok_holds, done_first}
 
 once_by : (earlier : ℕ) (o : Outcome (List Token)) (p : Preprocessed) → IfDone (λ toks t. HasEachOnce t.table) o → preprocessed_by earlier o ≡ Ok p
     → HasEachOnce p.after.table

@@ -3,8 +3,8 @@ use Rattle.std.proofs.Common.{◌≡◌, ℕ, ◌-◌, ◌<◌, true, inl, inr, 
 use Rattle.std.proofs.lemmas.Bool.{cases_lt}
 use Rattle.cs_base.specs.declared.positions.Part.{Part}
 use Rattle.cs_base.specs.declared.positions.Pos.{Pos}
+use Rattle.cs_base.proofs.PlaceLemmas.{pos_is as same_pos}
 use Rattle.eclass_map.specs.Positions.{along, holds}
-use Rattle.eclass_map.proofs.PartPlaces.{same_pos}
 use Rattle.eclass_map.proofs.TokenFacts.{Holding, holding}
 use Rattle.analysis.specs.Analysis.{AnalysisValue}
 use Rattle.analysis.specs.Parts.{IsCharacter, IsStart, IsPart}

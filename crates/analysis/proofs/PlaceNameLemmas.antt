@@ -1,7 +1,6 @@
 -- Which part a place names.
-use Rattle.std.proofs.Common.{◌≡◌, ℕ, zero, suc, ◌+◌, ◌<◌, ◌≤◌, Bool, true, false, cond, List, [], ◌∷◌, drop, length, Option, None, Some, refl, sym, ap, subst, ◌∙◌, inl, inr, arith}
+use Rattle.std.proofs.Common.{◌≡◌, ℕ, suc, ◌+◌, ◌<◌, ◌≤◌, Bool, true, false, cond, List, [], ◌∷◌, drop, length, Option, None, Some, refl, sym, ap, subst, ◌∙◌, inl, inr, arith}
 use Rattle.std.specs.Prelude.{slice_get, get_or}
-use Rattle.std.specs.List.{list_any}
 use Rattle.std.specs.Option.{option_map, option_and_then}
 use Rattle.std.specs.Str.{bytes_eq}
 use Rattle.std.proofs.lemmas.Bool.{cases_Bool, both_ways, false_from_ne_true}
@@ -10,6 +9,7 @@ use Rattle.std.proofs.lemmas.Option.{same_Some, slice_get-get_or}
 use Rattle.cs_base.specs.declared.positions.Part.{Part}
 use Rattle.cs_base.specs.declared.positions.Pos.{Pos}
 use Rattle.cs_base.specs.Token.{Token}
+use Rattle.cs_base.proofs.ListLemmas.{any_at as any_from}
 use Rattle.lexer.specs.Tokens.{tokens_of}
 use Rattle.eclass_map.specs.ClassTable.{Table as Classes, part_of}
 use Rattle.eclass_map.specs.Positions.{holds}
@@ -94,14 +94,6 @@ unfolding file_named
 named_past path table n past = at_drop_all (file_named path n) table n past
 
 -- ---- processed identifiers
-
-pub any_from : {X : Type 0} (test : X → Bool) (xs : List X) (k : ℕ) (x : X) → slice_get xs k ≡ Some x → test x ≡ true → list_any test xs ≡ true
-any_from test [] k x e h = absurd (cc)
-any_from test (y ∷ xs) zero x e h = let here : test y ≡ true = ap test (same_Some y x e) ∙ h in rw here refl
-any_from test (y ∷ xs) (suc k) x e h = elim (cases_Bool (test y)) [
-  | inl yes' ↦ rw yes' refl
-  | inr no' ↦ rw no' (any_from test xs k x e h)
-]
 
 -- a processed identifier that holds the character is a marked token of its file
 marked_over : (a : AnalysisValue) (marks : List (List Bool)) (file : KeptValue) (p : Pos) → kept_at a.table p.file ≡ Some file

@@ -10,6 +10,7 @@ use Rattle.std.proofs.lemmas.Option.{same_Some}
 use Rattle.cs_base.specs.declared.positions.Place.{Place}
 use Rattle.cs_base.specs.declared.positions.Pos.{Pos}
 use Rattle.cs_base.proofs.FileMapLemmas.{bytes_eq-same, bytes_eq-equal}
+use Rattle.cs_base.proofs.ListLemmas.{any_at as any_from}
 use Rattle.include_tree.specs.Below.line_shape.MacroLine.{are_distinct}
 use Rattle.lexer.proofs.InverseLemmas.{characters_placed, places_inverse}
 use Rattle.lexer.specs.Lines.{byte_offset_of, line_column_of, offset_of, place_of_byte}
@@ -22,7 +23,7 @@ use Rattle.analysis.specs.Naming.{character_of, file_named}
 use Rattle.analysis.specs.Places.{place_at, place_in_file, place_in_lines}
 use Rattle.analysis.specs.Placing.{StandsIn, IsPositionAt, byte_at, byte_in_file, has_place_in_lines, position_at, position_in_lines}
 use Rattle.analysis.proofs.NamingLemmas.{map_at}
-use Rattle.analysis.proofs.PlaceNameLemmas.{any_from, kept_number, mapped_some, named_kept, then_some}
+use Rattle.analysis.proofs.PlaceNameLemmas.{kept_number, mapped_some, named_kept, then_some}
 
 -- ---- the pseudo file of lines
 

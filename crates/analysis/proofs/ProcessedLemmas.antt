@@ -1,5 +1,5 @@
 -- The identifiers of items that were reached, and their marks.
-use Rattle.std.proofs.Common.{◌≡◌, ℕ, zero, suc, ◌+◌, ◌-◌, ◌<◌, ◌≤◌, Bool, true, nat_lt, List, [], ◌∷◌, ◌++◌, map, take, drop, length, Option, None, Some, Ok, refl, sym, ap, subst, ◌∙◌, inl, inr, arith, append-nil, append_assoc, take_all}
+use Rattle.std.proofs.Common.{◌≡◌, ℕ, zero, suc, ◌+◌, ◌-◌, ◌<◌, ◌≤◌, Bool, true, nat_lt, List, [], ◌∷◌, ◌++◌, take, drop, length, Option, None, Some, Ok, refl, sym, ap, subst, ◌∙◌, inl, inr, arith, append-nil, append_assoc, take_all}
 use Rattle.std.specs.Prelude.{slice_get, slice_range, Result, Err, OnOk}
 use Rattle.std.specs.List.{filter, flat_map}
 use Rattle.std.specs.Option.{option_map_or, option_and_then}
@@ -7,6 +7,7 @@ use Rattle.std.proofs.lemmas.Bool.{cases_Bool}
 use Rattle.std.proofs.lemmas.Option.{same_Some}
 use Rattle.cs_base.specs.Token.{Token}
 use Rattle.cs_base.specs.Limits.{most_bytes}
+use Rattle.cs_base.proofs.ListLemmas.{at_drop as drop_at, none_mapped}
 use Rattle.lexer.specs.FileText.{TextValue, text_value, text_or_open, file_text}
 use Rattle.lexer.specs.Tokens.{tokens_of, firsts_of, open_comment_of}
 use Rattle.include_tree.specs.Below.line_shape.declared.items.Item.{Item}
@@ -39,11 +40,6 @@ text_told file bytes text h = elim (cases_Bool (nat_lt most_bytes (length bytes)
 ]
 
 -- ---- ranges
-
-drop_at : {X : Type 0} (xs : List X) (from k : ℕ) → slice_get (drop from xs) k ≡ slice_get xs (from + k)
-drop_at xs zero k = let e : 0 + k ≡ k = omega arith in rw e refl
-drop_at [] (suc from) k = refl
-drop_at (x ∷ xs) (suc from) k = let e : suc from + k ≡ suc (from + k) = omega arith in rw e (drop_at xs from k)
 
 take_at : {X : Type 0} (xs : List X) (n k : ℕ) → k < n → slice_get (take n xs) k ≡ slice_get xs k
 take_at xs zero k less = absurd (omega arith)
@@ -120,11 +116,6 @@ item_marked table r file item old new is_kept at h =
             (in_filter is_name t (slice_range toks h.from h.to) name (range_has toks h.from h.to j t is.1.begins is.1.ends here)))
       ];
     }
-
-none_mapped : {X Y : Type 0} (f : X → Y) (xs : List X) (k : ℕ) → slice_get xs k ≡ None → slice_get (map f xs) k ≡ None
-none_mapped f [] k e = refl
-none_mapped f (x ∷ xs) zero e = absurd (cc)
-none_mapped f (x ∷ xs) (suc k) e = none_mapped f xs k e
 
 pub no_item : (table : Table) (r : Reached) (file : KeptValue) → kept_at table r.file ≡ Some file
     → slice_get (items_of (tokens_of file.number file.bytes) (firsts_of file.bytes)) r.item ≡ None → names_reached table r ≡ []

@@ -14,11 +14,6 @@ pushed_cases (z ∷ xs) x y (suc k) at = elim (pushed_cases xs x y k at) [
   | inr own ↦ inr (ap (λ (n : ℕ). suc n) own.0, own.1)
 ]
 
-pub pushed_old : {X : Type 0} (xs ys : List X) (y : X) (k : ℕ) → slice_get xs k ≡ Some y → slice_get (xs ++ ys) k ≡ Some y
-pushed_old [] ys y k at = absurd (none-some y at)
-pushed_old (z ∷ xs) ys y zero at = at
-pushed_old (z ∷ xs) ys y (suc k) at = pushed_old xs ys y k at
-
 pub pushed_own : {X : Type 0} (xs : List X) (x : X) → slice_get (xs ++ x ∷ []) (length xs) ≡ Some x
 pushed_own [] x = refl
 pushed_own (z ∷ xs) x = pushed_own xs x

@@ -10,6 +10,7 @@ use Rattle.cs_base.specs.declared.positions.Place.{Place}
 use Rattle.cs_base.specs.Token.{Token}
 use Rattle.cs_base.specs.Units.{UnitValue, IsUnit, defines_of}
 use Rattle.cs_base.proofs.FileMapLemmas.{bytes_eq-equal}
+use Rattle.cs_base.proofs.AnswerLemmas.{map_err_ok as unmapped}
 use Rattle.lexer.specs.FileText.{TextValue, LexFault, FileTooLarge, OpenComment, file_text}
 use Rattle.include_tree.specs.Below.source_files.Faults.{Fault, fault, first_place}
 use Rattle.include_tree.specs.Below.source_files.Files.{Source, SourceFile, Found, Lines, Absent, Unopened, Opened, Made, Table, Carried, nothing_carried, found_at, found_in, files_opened, number_of, numbered, asked, opened, defines_path}
@@ -30,7 +31,7 @@ use Rattle.analysis.specs.Texts.{UnitFault, unit_fault, unit_with}
 use Rattle.analysis.specs.Analysis.{UnitsValue, AnalysisValue, analysis_and, with_unit, unit_read, analysed_from}
 use Rattle.analysis.proofs.CarryLemmas.{unit_real}
 use Rattle.analysis.specs.Tables.{IsPseudoIfMade, MadeArePseudo, IsOpened, UnitFilesAreOpened}
-use Rattle.analysis.proofs.MadeLemmas.{ok_holds, done_first, unmapped, asked_made, made-push, outer_made, made_after}
+use Rattle.analysis.proofs.MadeLemmas.{ok_holds, done_first, asked_made, made-push, outer_made, made_after}
 
 -- ---- a table that grows
 

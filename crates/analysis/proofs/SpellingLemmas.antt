@@ -3,11 +3,12 @@ use Rattle.std.proofs.Common.{◌≡◌, ℕ, zero, suc, ◌+◌, ◌-◌, Bool,
 use Rattle.std.specs.Prelude.{slice_get, find}
 use Rattle.std.specs.List.{flat_map}
 use Rattle.std.specs.Option.{option_map_or, option_and_then}
-use Rattle.std.proofs.lemmas.Bool.{cases_Bool, both_ways}
+use Rattle.std.proofs.lemmas.Bool.{cases_Bool}
 use Rattle.std.proofs.lemmas.Option.{same_Some}
 use Rattle.cs_base.specs.declared.positions.Part.{Part}
 use Rattle.cs_base.specs.declared.positions.Pos.{Pos}
 use Rattle.cs_base.specs.Token.{Token, has_origins}
+use Rattle.cs_base.proofs.ListLemmas.{none_at}
 use Rattle.lexer.specs.Tokens.{tokens_of}
 use Rattle.eclass_map.specs.Positions.{holds}
 use Rattle.eclass_map.proofs.TokenFacts.{holding}
@@ -78,17 +79,6 @@ found_first test (y ∷ xs) x e = elim (cases_Bool (test y)) [
       let later : find test xs ≡ Some x = rw no' at e in
       let r = found_first test xs x later in
       ((suc r.0.0, r.0.1), r.1)
-]
-
-none_at : {X : Type 0} (test : X → Bool) (xs : List X) (x : X) (k : ℕ) → find test xs ≡ None → slice_get xs k ≡ Some x → test x ≡ true → ⊥
-none_at test [] x k e at h = absurd (cc)
-none_at test (y ∷ xs) x zero e at h = elim (cases_Bool (test y)) [
-  | inl yes' ↦ let here : Some y ≡ None = rw yes' at e in absurd (cc)
-  | inr no' ↦ both_ways (test y) no' (ap test (same_Some y x at) ∙ h)
-]
-none_at test (y ∷ xs) x (suc k) e at h = elim (cases_Bool (test y)) [
-  | inl yes' ↦ let here : Some y ≡ None = rw yes' at e in absurd (cc)
-  | inr no' ↦ none_at test xs x k (rw no' at e) at h
 ]
 
 span_among : (toks : List Token) (k : ℕ) (part : Part) → slice_get (map span_of toks) k ≡ Some part → (t : Token) × In t toks × (span_of t ≡ part)

@@ -13,6 +13,7 @@ use Rattle.lexer.specs.Order.{InOrder}
 use Rattle.lexer.specs.Characters.{line_feed, slash, star, is_white, begins}
 use Rattle.lexer.specs.Tokens.{Found, comment_end, comment_or_open, token_piece, piece_of, expects_header, piece_at, piece_length, leaves_gap, line_front_after, found_in, found_from, found_of, tokens_in, tokens_of}
 use Rattle.lexer.proofs.OrderLemmas.{tokens_of-in_order}
+use Rattle.lexer.proofs.OriginLemmas.{first_origin}
 use Rattle.eclass_map.specs.ClassTable.{part_of_file}
 use Rattle.analysis.specs.FileTokens.{span_of}
 use Rattle.analysis.specs.TokenSearch.{AreInLine}
@@ -68,10 +69,6 @@ unfolding tokens_of found_of
 tokens_traced file bytes = found_traced file bytes 0 true _ 0 (logical_of bytes)
 
 -- ---- spans
-
-first_origin : (file at n : ℕ) → 1 ≤ n → slice_get (origins_from file at n) 0 ≡ Some (Some (pos file at))
-first_origin file at zero some = absurd (omega arith)
-first_origin file at (suc n) some = refl
 
 span_traced : (file : ℕ) (t : Token) → 1 ≤ length t.text → t.origins ≡ origins_from file t.at.at (length t.text)
     → span_of t ≡ part_of_file file t.at.at (length t.text)

@@ -54,6 +54,7 @@ impl UnitParts {
     ghost use Rattle.analysis.specs.Analysis.{unit_analysis};
     ghost use Rattle.analysis.specs.GnuUnits.{gnu_begin};
     ghost use Rattle.analysis.specs.Trees.{HasTree};
+    ghost use Rattle.c99_tree.specs.Joined.{followed};
 
     pub(crate) fn new(standard: Standard, text: UnitText, tree: &Tree, bound: Bound) -> UnitParts
         requires read { HasTree standard text.toks tree.now }
@@ -64,6 +65,31 @@ impl UnitParts {
             text,
             bound,
         }
+    }
+
+    /// The same, where the tree is told in two parts.
+    pub(crate) fn behind(
+        standard: Standard,
+        text: UnitText,
+        front: &Tree,
+        rest: &Tree,
+        bound: Bound,
+    ) -> UnitParts
+        requires read { HasTree standard text.toks (followed front.now rest.now) }
+        ensures { result ≡ unit_analysis standard text (followed front.now rest.now) bound }
+    {
+        UnitParts {
+            standard,
+            text,
+            bound,
+        }
+    }
+
+    /// The standard by which the unit is read.
+    pub(crate) fn standard(&self) -> Standard
+        ensures { result ≡ self.now.standard }
+    {
+        self.standard
     }
 
     /// The text of the unit.

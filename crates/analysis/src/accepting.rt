@@ -14,6 +14,7 @@ use crate::accepted::{Accepted, UnitParts};
 use crate::analyse_fault::AnalyseFault;
 use crate::preprocessing::next_text;
 use crate::unit_reading::read_text;
+use c99_read::Front;
 use cs_base::{Files, Memory, Unit};
 use include_tree::Cache;
 use std::alloc::Global;
@@ -59,8 +60,17 @@ fn accepted_units<F: Files>(
     ensures faults { ReadsOnly (F.told files.old) (F.told files.new) (reads_of result) }
 {
     let mut all = Vec::new(alloc);
+    let mut fronts = Vec::new(alloc);
     for i in 0..units.len() {
-        match next_unit(alloc, cache, files, &units[i], i as u32 + 1) {
+        match next_unit(
+            alloc,
+            cache,
+            files,
+            &mut fronts,
+            all.last(),
+            &units[i],
+            i as u32 + 1,
+        ) {
             Ok(unit) => add(&mut all, unit)?,
             Err(fault) => return Err(fault),
         }
@@ -75,11 +85,14 @@ fn add(all: &mut Vec<UnitParts>, unit: UnitParts) -> Result<(), Memory>
     Ok(())
 }
 
-// A unit, with what is kept from the units before, or its fault.
+// A unit, with what is kept from the units before, or its fault. What it begins with as the unit before does is kept in the
+// fronts.
 fn next_unit<F: Files>(
     alloc: Global,
     cache: &mut Cache,
     files: &mut F,
+    fronts: &mut Vec<Front>,
+    before: Option<&UnitParts>,
     unit: &Unit,
     number: u32,
 ) -> Result<UnitParts, AnalyseFault>
@@ -93,6 +106,8 @@ fn next_unit<F: Files>(
         Ok(text) => read_text(
             alloc,
             cache,
+            fronts,
+            before,
             number,
             unit.standard(),
             unit.path().bytes(),

@@ -30,6 +30,7 @@ mod class_lists;
 mod external_names;
 mod fault_places;
 mod file_tokens;
+mod fronts;
 mod joining;
 mod linking;
 mod listed;

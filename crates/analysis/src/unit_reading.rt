@@ -10,21 +10,93 @@ ghost use Rattle.analysis.specs.Answers.{fault_of};
 ghost use Rattle.analysis.specs.Analysis.{read_unit, bound_unit};
 ghost use Rattle.analysis.specs.Trees.{HasTree};
 ghost use Rattle.analysis.specs.Accepting.{told_of_stop, told_fault, MayTell, IsNoReadFault};
+ghost use Rattle.c99_tree.specs.Joined.{followed};
+ghost use Rattle.c99_read.specs.Fronts.{BeginsWith};
+ghost use Rattle.c99_read.specs.Below.c99_grammar.Dialects.{dialect};
 
 use crate::accepted::UnitParts;
 use crate::analyse_fault::AnalyseFault;
 use crate::fault_places::place_of_index;
-use crate::reading::read_toks;
-use c99_read::ReadRefusal;
+use crate::fronts::{front_of, learn};
+use crate::reading::{read_toks, read_toks_from};
+use c99_read::{Front, ReadRefusal};
 use c99_tree::Tree;
-use cs_base::{Cause, Standard, Tok};
-use gnu_bind::{BindRefusal, bind_by};
+use cs_base::{Cause, Memory, Standard, Tok};
+use gnu_bind::{BindRefusal, bind_behind_by, bind_by};
 use include_tree::{Cache, UnitText};
 use std::alloc::Global;
 
 /// Reads by this standard and binds unit `number` of this path, whose text this is, or names its fault. The cache has the
-/// files that the text comes from.
+/// files that the text comes from. Where the text begins with a front, it is read on from there, and what it begins with as
+/// the unit before does becomes a front.
 pub(crate) fn read_text(
+    alloc: Global,
+    cache: &Cache,
+    fronts: &mut Vec<Front>,
+    before: Option<&UnitParts>,
+    number: u32,
+    standard: Standard,
+    path: &[u8],
+    text: UnitText,
+) -> Result<UnitParts, AnalyseFault>
+    ensures answer { Gives (λ u. u) fault_of result (result_map_err (unit_fault number) (read_unit standard cache.now.table path.now text)) }
+    ensures no_read { IfErr result IsNoReadFault }
+{
+    match learn_of(alloc, fronts, before, text.toks(), standard) {
+        Ok(()) => read_known(
+            alloc,
+            cache,
+            fronts.as_slice(),
+            number,
+            standard,
+            path,
+            text,
+        ),
+        Err(_) => Err(AnalyseFault::Memory),
+    }
+}
+
+// What the tokens have in common with the unit before is kept.
+fn learn_of(
+    alloc: Global,
+    fronts: &mut Vec<Front>,
+    before: Option<&UnitParts>,
+    toks: &[Tok],
+    standard: Standard,
+) -> Result<(), Memory> {
+    match before {
+        Some(unit) => {
+            if unit.standard() == standard {
+                learn(alloc, fronts, unit.text().toks(), toks, standard)
+            } else {
+                Ok(())
+            }
+        }
+        None => Ok(()),
+    }
+}
+
+// The same with these fronts.
+fn read_known(
+    alloc: Global,
+    cache: &Cache,
+    fronts: &[Front],
+    number: u32,
+    standard: Standard,
+    path: &[u8],
+    text: UnitText,
+) -> Result<UnitParts, AnalyseFault>
+    ensures answer { Gives (λ u. u) fault_of result (result_map_err (unit_fault number) (read_unit standard cache.now.table path.now text)) }
+    ensures no_read { IfErr result IsNoReadFault }
+{
+    match front_of(fronts, text.toks(), standard) {
+        Some(front) => read_behind(alloc, cache, front, number, standard, path, text),
+        None => read_whole(alloc, cache, number, standard, path, text),
+    }
+}
+
+// Reads the whole text.
+fn read_whole(
     alloc: Global,
     cache: &Cache,
     number: u32,
@@ -44,6 +116,71 @@ pub(crate) fn read_text(
             path,
             text.toks(),
             told_of_stop(refusal),
+        )),
+    }
+}
+
+// Reads what stands behind the front with which the text begins.
+fn read_behind(
+    alloc: Global,
+    cache: &Cache,
+    front: &Front,
+    number: u32,
+    standard: Standard,
+    path: &[u8],
+    text: UnitText,
+) -> Result<UnitParts, AnalyseFault>
+    requires by { front.now.dialect ≡ dialect standard }
+    requires begins { BeginsWith text.toks front.now }
+    ensures answer { Gives (λ u. u) fault_of result (result_map_err (unit_fault number) (read_unit standard cache.now.table path.now text)) }
+    ensures no_read { IfErr result IsNoReadFault }
+{
+    match read_toks_from(alloc, front, text.toks(), standard) {
+        Ok(rest) => bind_behind(
+            alloc,
+            cache,
+            number,
+            standard,
+            path,
+            text,
+            front.tree(),
+            &rest,
+        ),
+        Err(refusal) => Err(refused(
+            alloc,
+            cache,
+            number,
+            path,
+            text.toks(),
+            told_of_stop(refusal),
+        )),
+    }
+}
+
+// Binds a unit whose tokens have this tree, told in two parts.
+fn bind_behind(
+    alloc: Global,
+    cache: &Cache,
+    number: u32,
+    standard: Standard,
+    path: &[u8],
+    text: UnitText,
+    front: &Tree,
+    rest: &Tree,
+) -> Result<UnitParts, AnalyseFault>
+    requires read { HasTree standard text.toks (followed front.now rest.now) }
+    ensures answer { Gives (λ u. u) fault_of result (result_map_err (unit_fault number) (bound_unit standard cache.now.table path.now text (followed front.now rest.now))) }
+    ensures no_read { IfErr result IsNoReadFault }
+{
+    match bind_behind_by(alloc, text.toks(), front, rest, standard) {
+        Ok(bound) => Ok(UnitParts::behind(standard, text, front, rest, bound)),
+        Err(refusal) => Err(refused(
+            alloc,
+            cache,
+            number,
+            path,
+            text.toks(),
+            told_of_name(refusal),
         )),
     }
 }

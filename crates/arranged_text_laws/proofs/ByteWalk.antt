@@ -11,6 +11,7 @@ use Rattle.lexer.specs.Places.{pos, origins_from}
 use Rattle.lexer.specs.Lines.{byte_offset_of}
 use Rattle.lexer.specs.Logical.{Character, character, gone_length, logical_from, logical_of}
 use Rattle.lexer.specs.Tokens.{tokens_of, open_comment_of}
+use Rattle.lexer.proofs.OriginLemmas.{origin_in as origins_get}
 use Rattle.arranged_text_laws.specs.Labels.{starts}
 use Rattle.arranged_text_laws.specs.Joining.{is_seam}
 use Rattle.arranged_text_laws.specs.Seams.{kept, is_plain, ends_plain}
@@ -190,13 +191,6 @@ first_of bytes toks k = option_map_or (first_byte bytes) (slice_get toks k) 0
 
 abbrev pub end_of : List ℕ → List Token → ℕ → ℕ
 end_of bytes toks k = option_map_or (end_byte bytes) (slice_get toks (k - 1)) 0
-
-origins_get : (file at n k : ℕ) → k < n → slice_get (origins_from file at n) k ≡ Some (Some (pos file (at + k)))
-origins_get file at zero k lt = absurd (omega (arith, lt))
-origins_get file at (suc n) zero lt = let same : at ≡ at + 0 = omega arith in ap (λ (j : ℕ). Some (Some (pos file j))) same
-origins_get file at (suc n) (suc k) lt =
-    let same : at + 1 + k ≡ at + suc k = omega arith in
-    origins_get file (at + 1) n k (omega (arith, lt)) ∙ ap (λ (j : ℕ). Some (Some (pos file j))) same
 
 origin_is : (file : ℕ) (t : Token) (k : ℕ) → t.origins ≡ origins_from file t.at.at (length t.text) → k < length t.text → origin_at t k ≡ Some (pos file (t.at.at + k))
 origin_is file t k own lt =

@@ -6,10 +6,12 @@ use Rattle.std.proofs.lemmas.Bool.{cases_Bool, and_parts, and_from, eqb-true, le
 use Rattle.std.proofs.lemmas.Bool.Decides.{nat_tests}
 use Rattle.cs_base.specs.declared.tokens.Kind.{Kind}
 use Rattle.cs_base.specs.declared.tokens.Kind.TheVariants.{Ident, Number, Char, Str, Punct, Other, Header}
-use Rattle.lexer.specs.Characters.{line_feed, single_quote, slash, star, capital_l, is_white, is_quote, is_word, is_on_line, begins}
+use Rattle.cs_base.proofs.BoolLemmas.{and_false as and_none, not_true as not-true, or_right}
+use Rattle.lexer.specs.Characters.{line_feed, slash, star, capital_l, is_white, is_quote, is_word, is_on_line, begins}
 use Rattle.lexer.specs.Front.{quoted, quoted_kind, plain_front, front_of}
 use Rattle.lexer.specs.Tokens.{Found, FoundToken, FoundOpen, file_token, is_hash_text, with_token, is_line_start, expects_header, piece_of, piece_length, leaves_gap, line_front_after, found_in}
 use Rattle.lexer.proofs.LocalLemmas.{option-cases}
+use Rattle.lexer.proofs.KeptLemmas.{quoted_kind-other as quoted_no_name}
 use Rattle.arranged_text_laws.specs.Settling.{Front, is_lone, begins_quote, has_line_feed, asks_nothing, keeps_line, is_closed, halts, lies_within, is_settled, settles, gap_behind}
 use Rattle.arranged_text_laws.specs.Places.{found_plain}
 use Rattle.arranged_text_laws.specs.Marks.{file_front, line_start, some_tokens, Before, front_at}
@@ -28,10 +30,6 @@ plain_at st = elim (cases_Bool st.first) [ inl first ↦ inl (rw first refl) | i
 pub no_header : (front : Front) → IsPlain front → expects_header front ≡ false
 unfolding file_front
 no_header front p = elim p [ inl is ↦ rw is refl | inr is ↦ rw is refl ]
-
-not-true : (b : Bool) → not b ≡ true → b ≡ false
-not-true true h = absurd cc
-not-true false h = refl
 
 -- a token that begins no directive leaves a plain line
 pub token_plain : (front : Front) (chars : List ℕ) → IsPlain front → (is_line_start front && is_hash_text chars) ≡ false → IsPlain (with_token chars front)
@@ -91,12 +89,6 @@ asks_of c xs Str odd narrow = refl
 asks_of c xs Punct odd narrow = refl
 asks_of c xs Other odd narrow = absurd cc
 asks_of c xs Header odd narrow = refl
-
-quoted_no_name : (q : ℕ) → quoted_kind q ≡ Ident → ⊥
-quoted_no_name q h = elim (cases_Bool (q == single_quote)) [
-  | inl single ↦ let no_name : Char ≡ Ident = rw single at h in absurd cc
-  | inr double ↦ let no_name : Str ≡ Ident = rw double at h in absurd cc
-]
 
 -- an `L` before a quote that does not close is a name of one character, and the quote an odd token
 pub lone_quote : (c q : ℕ) (ds : List ℕ) → (c == capital_l && is_quote q) ≡ true → (plain_front c (q ∷ ds)).0 ≡ Ident
@@ -188,10 +180,6 @@ settled_from stop header c xs ys shut few rest =
     (and_from (lies_within header c xs ys) (is_lone c || (halts stop c xs && keeps_line header c xs ys))
     (le-leb (piece_length 0 (piece_of header c (xs ++ ys))) (length xs + 1) few) rest)
 
-pub or_right : (b c : Bool) → c ≡ true → (b || c) ≡ true
-or_right true c h = refl
-or_right false c h = h
-
 -- a line feed stands behind
 pub line_keeps : (header : Bool) (c : ℕ) (xs ys : List ℕ) → has_line_feed xs ≡ true → keeps_line header c xs ys ≡ true
 line_keeps header c xs ys feed = rw feed refl
@@ -209,10 +197,6 @@ token_keeps c xs ys no_line asks =
     or_right (has_line_feed xs)
     (not (c == slash && begins slash (xs ++ ys)) && ((c == slash && begins star (xs ++ ys)) || asks_nothing c xs (front_of false c (xs ++ ys)).0))
     (rw no_line (or_right (c == slash && begins star (xs ++ ys)) (asks_nothing c xs (front_of false c (xs ++ ys)).0) asks))
-
-pub and_none : (b : Bool) → (b && false) ≡ false
-and_none true = refl
-and_none false = refl
 
 -- no lone quote stands behind an `L`
 narrow_of : (front : Front) (at c : ℕ) (xs ys : List ℕ) → Spells false c (xs ++ ys)

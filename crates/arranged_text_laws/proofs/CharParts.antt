@@ -4,15 +4,16 @@ use Rattle.std.specs.Prelude.{slice_get, unwrap_or}
 use Rattle.std.specs.List.{list_all}
 use Rattle.std.specs.Option.{option_map, option_map_or}
 use Rattle.std.specs.Str.{bytes_eq}
-use Rattle.std.proofs.lemmas.Bool.{cases_Bool, and_parts, and_from, leb-true, leb-false, eqb-true}
+use Rattle.std.proofs.lemmas.Bool.{cases_Bool, and_parts, and_from, leb-true, leb-false}
 use Rattle.std.proofs.lemmas.List.{length-map, drop-drop}
 use Rattle.std.proofs.lemmas.Option.{slice_get-map, slice_get_within}
 use Rattle.cs_base.specs.declared.tokens.Kind.TheVariants.{Punct}
 use Rattle.cs_base.specs.Token.{Token}
-use Rattle.lexer.specs.Characters.{line_feed, is_white}
+use Rattle.lexer.specs.Characters.{line_feed}
 use Rattle.lexer.specs.Logical.{Character, logical_of}
 use Rattle.lexer.specs.Tokens.{Found, FoundToken, FoundOpen, kind_or_other, found_of, tokens_in, tokens_of, open_comment_of}
 use Rattle.lexer.specs.Spelling.{kind_in, kind_of, is_punctuator_text}
+use Rattle.lexer.proofs.OrderLemmas.{dark_feed}
 use Rattle.line_shape.specs.Signs.{is_punctuator, is_sign, is_open}
 use Rattle.arranged_text_laws.specs.Labels.{starts}
 use Rattle.arranged_text_laws.specs.Settling.{is_lone, has_line_feed}
@@ -111,12 +112,6 @@ get_take zero k xs lt = absurd (omega (arith, lt))
 get_take (suc n) k [] lt = refl
 get_take (suc n) zero (x ∷ xs) lt = refl
 get_take (suc n) (suc k) (x ∷ xs) lt = get_take n k xs (omega (arith, lt))
-
-dark_feed : (c : ℕ) → is_white c ≡ false → (c == line_feed) ≡ false
-dark_feed c h = elim (cases_Bool (c == line_feed)) [
-  | inl feed ↦ let nost : true ≡ false = ap is_white (sym (eqb-true c line_feed feed)) ∙ h in absurd cc
-  | inr on ↦ on
-]
 
 get_or_drop : (n p : ℕ) (xss : List (List Found)) → get_or (drop n xss) p [] ≡ get_or xss (n + p) []
 get_or_drop zero p xss = let same : p ≡ 0 + p = omega arith in ap (λ (k : ℕ). get_or xss k []) same

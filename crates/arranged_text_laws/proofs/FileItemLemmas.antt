@@ -2,7 +2,8 @@
 use Rattle.std.proofs.Common.{◌≡◌, ℕ, zero, suc, ◌≤◌, Bool, not, List, [], ◌∷◌, length, take, drop, map, get_or, refl, sym, ap, subst, ◌∙◌, arith, length-take-le}
 use Rattle.std.proofs.lemmas.List.{length-map}
 use Rattle.cs_base.specs.Token.{Token}
-use Rattle.lexer.specs.Tokens.{Found, FoundToken, FoundOpen, found_of, tokens_in, firsts_in, tokens_of, firsts_of as firsts_of_bytes}
+use Rattle.lexer.specs.Tokens.{tokens_of, firsts_of as firsts_of_bytes}
+use Rattle.lexer.proofs.ScanLemmas.{firsts_of-each as file_firsts}
 use Rattle.line_shape.specs.Signs.{is_hash}
 use Rattle.line_shape.specs.Items.{items_of}
 use Rattle.list_cuts.specs.Cuts.{Cut, done, keep, list, Items, span_of, extent_of, IsOrder, arranged, AreOf}
@@ -14,7 +15,7 @@ use Rattle.arranged_text_laws.specs.Tokens.{cut_in, token_there, without_gap, no
 use Rattle.arranged_text_laws.specs.FileItems.{placed, FileRuns, FileItemsStay}
 use Rattle.arranged_text_laws.proofs.FlowLemmas.{take_front, drop_front}
 use Rattle.arranged_text_laws.proofs.SeamLemmas.{masked_same, masked_items_same}
-use Rattle.arranged_text_laws.proofs.TokenLaw.{masked-image, masked_items-image, firsts_of_file}
+use Rattle.arranged_text_laws.proofs.TokenLaw.{masked-image, masked_items-image}
 use Rattle.arranged_text_laws.proofs.RunLemmas.{items_stay, runs_move}
 
 -- ---- outside of lists nothing is masked
@@ -106,15 +107,6 @@ firsts_placed (t ∷ ts) (f ∷ fs) e = ap (λ (l : List Bool). f ∷ l) (firsts
 
 pub length-placed : (ts : List Token) (fs : List Bool) → length fs ≡ length ts → length (placed ts fs) ≡ length ts
 length-placed ts fs e = sym (length-map (placed ts fs) (λ (p : Placed). p.tok)) ∙ ap length (toks_placed ts fs e)
-
-many_firsts : (fs : List Found) → length (firsts_in fs) ≡ length (tokens_in fs)
-many_firsts [] = refl
-many_firsts (FoundToken t first ∷ fs) = ap (λ (n : ℕ). suc n) (many_firsts fs)
-many_firsts (FoundOpen at ∷ fs) = many_firsts fs
-
-pub file_firsts : (file : ℕ) (bytes : List ℕ) → length (firsts_of_bytes bytes) ≡ length (tokens_of file bytes)
-unfolding tokens_of
-file_firsts file bytes = sym (ap length (firsts_of_file file bytes)) ∙ many_firsts (found_of file bytes)
 
 -- ---- the law
 

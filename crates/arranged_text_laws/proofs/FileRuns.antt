@@ -1,14 +1,14 @@
 -- The lists of a file stand in its runs, also once their items are in another order.
-use Rattle.std.proofs.Common.{◌≡◌, ℕ, zero, suc, ◌+◌, ◌-◌, ◌<◌, ◌≤◌, Bool, true, false, not, ◌&&◌, ◌||◌, List, [], ◌∷◌, ◌++◌, length, take, drop, map, codes, Option, Some, None, inl, inr, refl, sym, ap, subst, ◌∙◌, arith, take-add, take-append-drop, length-take-le}
+use Rattle.std.proofs.Common.{◌≡◌, ℕ, zero, suc, ◌+◌, ◌-◌, ◌<◌, ◌≤◌, Bool, true, false, not, ◌&&◌, ◌||◌, List, [], ◌∷◌, ◌++◌, length, take, drop, map, Option, Some, None, inl, inr, refl, sym, ap, subst, ◌∙◌, arith, take-add, take-append-drop, length-take-le}
 use Rattle.std.specs.Prelude.{slice_get, unwrap_or}
 use Rattle.std.specs.List.{list_any}
-use Rattle.std.specs.Str.{bytes_eq}
-use Rattle.std.proofs.lemmas.Bool.{cases_Bool, and_parts}
-use Rattle.std.proofs.lemmas.Slice.Eq.{bytes_eq-Decides}
+use Rattle.std.proofs.lemmas.Bool.{cases_Bool}
 use Rattle.std.proofs.lemmas.List.{drop-drop, take-map, drop-map, length-map}
 use Rattle.cs_base.specs.Token.{Token}
 use Rattle.lexer.specs.Tokens.{tokens_of, firsts_of, open_comment_of}
-use Rattle.line_shape.specs.Signs.{is_punctuator, is_hash, is_close}
+use Rattle.lexer.proofs.ScanLemmas.{firsts_of-each as file_firsts}
+use Rattle.line_shape.specs.Signs.{is_hash, is_close}
+use Rattle.line_shape.proofs.SignLemmas.{close_no_hash}
 use Rattle.list_cuts.specs.Cuts.{Cut, done, keep, list, Items, ended, item, span_of, extent_of}
 use Rattle.arranged_text_laws.specs.Marks.{file_front}
 use Rattle.arranged_text_laws.specs.Labels.{masked, starts, IsLed, Firsts, FirstsOfItems}
@@ -18,7 +18,7 @@ use Rattle.arranged_text_laws.specs.FileItems.{placed, FileRuns}
 use Rattle.arranged_text_laws.proofs.SeamLemmas.{masked_same}
 use Rattle.arranged_text_laws.proofs.TokenLaw.{masked-image}
 use Rattle.arranged_text_laws.proofs.TokenLemmas.{firsts_append}
-use Rattle.arranged_text_laws.proofs.FileItemLemmas.{file_firsts, length-placed}
+use Rattle.arranged_text_laws.proofs.FileItemLemmas.{length-placed}
 use Rattle.arranged_text_laws.specs.Lists.{passes, may_begin, ListMoves}
 use Rattle.arranged_text_laws.proofs.Formed.{IsKept, Formed, FormedItems, Each}
 use Rattle.arranged_text_laws.proofs.FileTokens.{token_at}
@@ -53,7 +53,7 @@ hash_masked : (c : Cut) (ts : List Token) → map is_hash ts ≡ map is_hash (ma
 unfolding is_hash
 hash_masked c ts = sym (masked_same c (map is_hash ts)) ∙ masked-image without_gap (λ b. b) is_hash (λ t. refl) c ts
 
-hash_there : (order : List ℕ) (d : Cut) (bytes : List ℕ) (ts : List Token) → map is_hash (map (token_there order d bytes) ts) ≡ map is_hash ts
+pub hash_there : (order : List ℕ) (d : Cut) (bytes : List ℕ) (ts : List Token) → map is_hash (map (token_there order d bytes) ts) ≡ map is_hash ts
 unfolding is_hash
 hash_there order d bytes [] = refl
 hash_there order d bytes (t ∷ ts) = ap (λ (l : List Bool). is_hash t ∷ l) (hash_there order d bytes ts)
@@ -162,16 +162,6 @@ goes_on_at : (ps : List Placed) (m : ℕ) (p : Placed) → slice_get ps m ≡ So
 goes_on_at [] m p there no_sign = absurd cc
 goes_on_at (q ∷ ps) zero p there no_directive = ap (λ (x : Placed). not (begins_directive x)) (ap (λ (o : Option Placed). unwrap_or o p) there) ∙ ap not no_directive
 goes_on_at (q ∷ ps) (suc m) p there no_directive = goes_on_at ps m p there no_directive
-
-close_no_hash : (t : Token) → is_close t ≡ true → is_hash t ≡ false
-unfolding is_close is_hash
-close_no_hash t h =
-    let text = (bytes_eq-Decides t.text (codes ")")).0 (and_parts (is_punctuator t.kind) (bytes_eq t.text (codes ")")) h).1 in
-    ap (λ (l : List ℕ). (is_punctuator t.kind && bytes_eq l (codes "#")) || (is_punctuator t.kind && bytes_eq l (codes "%:"))) text ∙ never (is_punctuator t.kind)
-  where
-    never : (b : Bool) → ((b && false) || (b && false)) ≡ false
-    never true = refl
-    never false = refl
 
 module _ (file : ℕ) (bytes : List ℕ) (none : open_comment_of bytes ≡ None) (vs : List Placed)
     (same : map begins_directive vs ≡ map begins_directive (placed (tokens_of file bytes) (firsts_of bytes))) where

@@ -1,13 +1,13 @@
 -- The tokens of a file, by their numbers: where each begins and ends among the characters, and what stands on its line.
 use Rattle.std.proofs.Common.{◌≡◌, ℕ, zero, suc, ◌+◌, Bool, true, false, ◌&&◌, ◌||◌, List, [], ◌∷◌, length, take, Option, Some, None, codes, inl, inr, refl, sym, ap, subst, ◌∙◌, arith}
-use Rattle.std.specs.Prelude.{slice_get, unwrap_or}
+use Rattle.std.specs.Prelude.{slice_get}
 use Rattle.std.specs.List.{list_all}
 use Rattle.std.specs.Option.{option_map}
 use Rattle.std.specs.Str.{bytes_eq}
 use Rattle.std.proofs.lemmas.Bool.{or_cases}
 use Rattle.std.proofs.lemmas.Slice.Eq.{bytes_eq-Decides}
 use Rattle.std.proofs.lemmas.List.{length-take-le}
-use Rattle.std.proofs.lemmas.Option.{slice_get-map}
+use Rattle.std.proofs.lemmas.Option.{slice_get-map, same_Some as some_same}
 use Rattle.cs_base.specs.declared.tokens.Kind.{Kind}
 use Rattle.cs_base.specs.declared.tokens.Kind.TheVariants.{Punct}
 use Rattle.cs_base.specs.Token.{Token}
@@ -15,6 +15,7 @@ use Rattle.lexer.specs.Places.{origins_from}
 use Rattle.lexer.specs.Front.{front_of}
 use Rattle.lexer.specs.Tokens.{Found, FoundToken, FoundOpen, is_hash_text, is_line_start, expects_header, kind_or_other, found_of, tokens_in, tokens_of, firsts_in, firsts_of, open_comment_of}
 use Rattle.lexer.proofs.KindLemmas.{front_of-front}
+use Rattle.lexer.proofs.ScanLemmas.{firsts_of-file as firsts_of_file}
 use Rattle.lexer.specs.Spelling.{kind_in, kind_of, is_punctuator_text}
 use Rattle.line_shape.specs.Signs.{is_punctuator, is_hash}
 use Rattle.arranged_text_laws.specs.Marks.{line_start}
@@ -23,7 +24,7 @@ use Rattle.arranged_text_laws.specs.Weighed.{together}
 use Rattle.arranged_text_laws.specs.Runs.{Placed}
 use Rattle.arranged_text_laws.specs.FileItems.{placed}
 use Rattle.arranged_text_laws.proofs.LeadLemmas.{start_known}
-use Rattle.arranged_text_laws.proofs.TokenLaw.{shut_file, firsts_of_file}
+use Rattle.arranged_text_laws.proofs.TokenLaw.{shut_file}
 use Rattle.arranged_text_laws.proofs.Walk.{bare, Spot, spot}
 use Rattle.arranged_text_laws.proofs.FileWalk.{own_at, chars_of, entries_of, entries_shut, bare_all, found_own_all}
 
@@ -112,9 +113,6 @@ place_in_found (FoundOpen at) = at
 abbrev first_in_found : Found → Bool
 first_in_found (FoundToken t first) = first
 first_in_found (FoundOpen at) = false
-
-some_same : {X : Type 0} (x y : X) → Some x ≡ Some y → x ≡ y
-some_same x y e = ap (λ (o : Option _). unwrap_or o x) e
 
 some_found : (o : Option Found) (f : Found) → option_map bare o ≡ Some f → (g : Found) × (o ≡ Some g) × (bare g ≡ f)
 some_found None f e = absurd cc

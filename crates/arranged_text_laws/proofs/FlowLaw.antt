@@ -3,23 +3,13 @@ use Rattle.std.proofs.Common.{◌≡◌, ℕ, zero, suc, ◌+◌, ◌<◌, ◌�
 use Rattle.std.proofs.lemmas.List.{drop-drop, take-append-le, drop-append-le}
 use Rattle.list_cuts.specs.Cuts.{Cut, done, keep, list, Items, ended, item, count_of, span_of, extent_of, IsOrder, picked, woven, gaps_of, arranged, items_of, AreOf, AreItemsOf}
 use Rattle.list_cuts.proofs.OrderLemmas.{length-picked}
-use Rattle.list_cuts.proofs.CutLemmas.{length-order, items_of-append, gaps_of-append, short-drop}
+use Rattle.list_cuts.proofs.CutLemmas.{length-order, items_of-append, gaps_of-append, short-drop, length-gaps_of as many_gaps, length-items_of as many_items}
 use Rattle.arranged_text_laws.specs.Labels.{head_with, starts, masked, masked_items, IsListed, IsLed, Firsts, FirstsOfItems}
 use Rattle.arranged_text_laws.proofs.OrderLemmas.{labelled, order_within, labels_of_items}
 use Rattle.arranged_text_laws.proofs.Flows.{Flow, Goes, Loose, HasEnd, GapFlows, Flows, ItemsFlow}
 use Rattle.arranged_text_laws.proofs.FlowLemmas.{starts-append, take_front, drop_front, drop_both, take_gap, ItemGoes, AllGo, all_picked, GapsGo, weave}
 
 -- ---- counts
-
-many_items : {X : Type 0} (order : List ℕ) (is : Items) (xs : List X) → length (items_of order is xs) ≡ count_of is
-unfolding items_of count_of
-many_items order ended xs = refl
-many_items order (item n c gap more) xs = let rest = many_items order more (drop (n + gap) xs) in omega arith
-
-many_gaps : {X : Type 0} (is : Items) (xs : List X) → length (gaps_of is xs) ≡ count_of is
-unfolding gaps_of count_of
-many_gaps ended xs = refl
-many_gaps (item n c gap more) xs = let rest = many_gaps more (drop (n + gap) xs) in omega arith
 
 -- ---- the first element
 

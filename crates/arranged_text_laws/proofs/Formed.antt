@@ -1,12 +1,12 @@
 -- Cuts of lists that stand in one another: how they are formed, and what is so of each list along them.
 use Rattle.std.proofs.Common.{◌≡◌, ℕ, ◌+◌, ◌-◌, ◌<◌, ◌≤◌, true, false, ◌&&◌, nat_le, List, [], ◌∷◌, refl, sym, ap, subst, ◌∙◌, arith, inl, inr}
 use Rattle.std.specs.Prelude.{◌⊎◌}
-use Rattle.std.proofs.lemmas.Bool.{cases_Bool, and_parts, or_cases, leb-true, leb-false, le-leb, eqb-true}
+use Rattle.std.proofs.lemmas.Bool.{cases_Bool, and_parts, leb-true, leb-false, le-leb, eqb-true}
 use Rattle.list_cuts.specs.declared.spans.Span.{Span}
 use Rattle.list_cuts.specs.Cuts.{Cut, done, keep, list, Items, ended, item, count_of, span_of, extent_of}
 use Rattle.list_cuts.specs.Spans.{end_of}
 use Rattle.list_cuts.specs.CutOf.{front, back, is_between, is_free, cut_items, rest_of, cut_of, holds_items, is_around, are_nested}
-use Rattle.std.proofs.Math.Bool.{or-true}
+use Rattle.list_cuts.proofs.CutOfLemmas.{free-between as free_between}
 use Rattle.arranged_text_laws.specs.Labels.{IsListed, IsLed}
 
 -- no list begins a cut
@@ -83,26 +83,6 @@ back_past n k is c lt le = let l = not_le n k lt in let w = le-leb (span_of is) 
 pub between_past : (n k : ℕ) (is : Items) (c : Cut) → k < n → span_of is ≤ n - k → is_between n (keep k (list is c)) ≡ is_between (n - k - span_of is) c
 unfolding is_between
 between_past n k is c lt le = let l = not_le n k lt in let w = le-leb (span_of is) (n - k) le in rw (l, w) refl
-
-between_none : (c : Cut) → is_between 0 c ≡ true
-unfolding is_between
-between_none done = refl
-between_none (keep k c) = let least : nat_le 0 k ≡ true = le-leb 0 k (omega arith) in rw least refl
-between_none (list is c) = elim (cases_Bool (nat_le (span_of is) 0)) [
-  | inl whole ↦ let none : 0 - span_of is ≡ 0 = omega arith in rw (whole, none) (between_none c)
-  | inr part ↦ rw part refl
-]
-
-pub free_between : (n : ℕ) (c : Cut) → is_free n c ≡ true → is_between n c ≡ true
-unfolding is_free is_between
-free_between n done h = refl
-free_between n (keep k c) h = elim (or_cases (nat_le n k) (is_free (n - k) c) h) [
-  | inl short ↦ rw short refl
-  | inr long ↦ rw (free_between (n - k) c long) (or-true (nat_le n k))
-]
-free_between n (list is c) h =
-    let none : n ≡ 0 = eqb-true n 0 h in
-    rw none (between_none (list is c))
 
 -- the parts of a cut are formed as it is
 pub record PartsFormed (n : ℕ) (c : Cut) : Type 0 where

@@ -10,6 +10,7 @@ use Rattle.std.proofs.lemmas.List.{take-map}
 use Rattle.std.proofs.lemmas.Option.{slice_get_within}
 use Rattle.cs_base.specs.Token.{Token}
 use Rattle.lexer.specs.Tokens.{Found, FoundToken, FoundOpen, is_hash_text, found_of, tokens_in, tokens_of, firsts_in, firsts_of, open_comment_of}
+use Rattle.lexer.proofs.ScanLemmas.{firsts_of-file as firsts_of_file}
 use Rattle.line_shape.specs.Signs.{is_punctuator, is_open, is_close}
 use Rattle.list_cuts.specs.declared.spans.Span.{Span}
 use Rattle.list_cuts.specs.Spans.{end_of}
@@ -17,7 +18,7 @@ use Rattle.arranged_text_laws.specs.Calm.{is_odd, is_shut, is_plain_at_end}
 use Rattle.arranged_text_laws.specs.Weighed.{together}
 use Rattle.arranged_text_laws.specs.Runs.{Placed, begins_directive, in_text, text_behind}
 use Rattle.arranged_text_laws.specs.FileItems.{placed}
-use Rattle.arranged_text_laws.proofs.TokenLaw.{shut_file, firsts_of_file}
+use Rattle.arranged_text_laws.proofs.TokenLaw.{shut_file}
 use Rattle.arranged_text_laws.specs.Lists.{is_line_feed_at, line_begin, is_line_among, passes, place_of, begin_of, close_of, AreItems, ListMoves}
 use Rattle.arranged_text_laws.proofs.Widened.{begin_keeps}
 use Rattle.arranged_text_laws.proofs.Walk.{bare}

@@ -6,16 +6,18 @@ use Rattle.std.specs.Str.{bytes_eq}
 use Rattle.std.proofs.lemmas.Bool.{cases_Bool, and_parts, and_from, eqb-true}
 use Rattle.cs_base.specs.declared.tokens.Kind.{Kind}
 use Rattle.cs_base.specs.declared.tokens.Kind.TheVariants.{Ident}
+use Rattle.cs_base.proofs.BoolLemmas.{and_false as and_none, or_right}
 use Rattle.lexer.specs.Characters.{line_feed, slash, star, capital_l, is_quote, is_on_line, begins}
 use Rattle.lexer.specs.Front.{plain_front, front_of}
 use Rattle.lexer.specs.Tokens.{Found, FoundToken, FoundOpen, file_token, is_hash_text, with_token, is_line_start, expects_header, comment_end, piece_of, piece_length, leaves_gap, line_front_after, found_in}
+use Rattle.lexer.proofs.LocalLemmas.{comment_end-some as end_two}
 use Rattle.arranged_text_laws.specs.Settling.{Front, is_lone, is_stop, begins_quote, has_line_feed, asks_nothing, keeps_line, halts, is_settled, settles}
 use Rattle.arranged_text_laws.specs.Places.{found_plain}
 use Rattle.arranged_text_laws.specs.Marks.{file_front, line_start, some_tokens, Before, front_at}
 use Rattle.arranged_text_laws.specs.Calm.{is_odd, is_even, is_quiet, is_shut, is_plain_at_end, is_sign, ends_in_sign, begins_on_line, skip_behind, LeadsSettle}
 use Rattle.arranged_text_laws.proofs.StopLemmas.{one_more-some}
 use Rattle.arranged_text_laws.proofs.ViewLemmas.{Spells, feeds, whites, lines, blocks, opens, spells, view, feed_lone, feeds_closed, whites_closed, lines_closed, blocks_closed, spells_closed}
-use Rattle.arranged_text_laws.proofs.CalmLemmas.{IsPlain, plain_at, no_header, token_plain, all_append, skip_within, asks_of, lone_quote, plain_is, even_quote, settled_from, or_right, line_keeps, block_keeps, token_keeps, and_none}
+use Rattle.arranged_text_laws.proofs.CalmLemmas.{IsPlain, plain_at, no_header, token_plain, all_append, skip_within, asks_of, lone_quote, plain_is, even_quote, settled_from, line_keeps, block_keeps, token_keeps}
 
 -- ---- what stands on the line: one of four
 
@@ -214,14 +216,6 @@ feed_stop (x ∷ xs) h =
     elim (cases_Bool (x == line_feed)) [
       | inl ends ↦ let lone = feed_lone x ends in rw lone refl
       | inr on ↦ or_right (is_stop x) (list_any is_stop xs) (feed_stop xs (rw on at h))
-    ]
-
-end_two : (cs : List ℕ) (k : ℕ) → comment_end cs ≡ Some k → 2 ≤ k
-end_two [] k is = absurd cc
-end_two (c ∷ cs) k is =
-    elim (cases_Bool (c == star && begins slash cs)) [
-      | inl here ↦ let two : Some 2 ≡ Some k = rw here at is in let same : 2 ≡ k = cc in omega arith
-      | inr more ↦ let i = one_more-some (comment_end cs) k (rw more at is) in let rest = end_two cs i.0 i.1 in omega (arith, rest, i.2)
     ]
 
 end_inside : (zs ys : List ℕ) (k : ℕ) → comment_end (zs ++ ys) ≡ Some k → k ≤ length zs → list_any is_stop zs ≡ true

@@ -8,6 +8,7 @@ use Rattle.std.proofs.lemmas.List.Sums.{sum_by-cons}
 use Rattle.std.proofs.lemmas.List.Folds.{list_any_at}
 use Rattle.std.proofs.lemmas.List.Elements.{All-from_get_or}
 use Rattle.std.proofs.lemmas.List.Sorted.{sum_by-IsPermutation, All-permutation}
+use Rattle.cs_base.proofs.BoolLemmas.{not_true as not-true}
 use Rattle.list_cuts.specs.Cuts.{numbers, IsOrder, picked}
 use Rattle.list_cuts.specs.Orders.{has_number}
 use Rattle.list_cuts.proofs.OrderLemmas.{length-numbers, get_or-numbers}
@@ -142,10 +143,6 @@ abbrev given : {S : Type 0} → S → ℕ → List ℕ → List S → S
 given d j [] ss = d
 given d j (k ∷ ks) [] = d
 given d j (k ∷ ks) (s ∷ ss) = cond (k == j) s (given d j ks ss)
-
-not-true : (b : Bool) → not b ≡ true → b ≡ false
-not-true true h = absurd cc
-not-true false h = refl
 
 -- labels of places are labels of the items that come to stand there
 places_by_items : {Y S : Type 0} (label : S → Y → Y) (d : S) (us : List S) (xss : List (List Y)) (n : ℕ) (ks : List ℕ) (ss : List S) → length us ≡ n

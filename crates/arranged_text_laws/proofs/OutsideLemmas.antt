@@ -1,13 +1,14 @@
 -- What stands outside of lists stays where it is, and in its line.
-use Rattle.std.proofs.Common.{◌≡◌, ℕ, zero, suc, ◌+◌, ◌-◌, ◌<◌, ◌≤◌, Bool, ◌==◌, cond, List, [], ◌∷◌, ◌++◌, length, take, drop, map, get_or, inl, inr, refl, sym, ap, subst, ◌∙◌, arith, add-zero, take-append-drop, length-append, length-drop, length-take-le}
+use Rattle.std.proofs.Common.{◌≡◌, ℕ, zero, suc, ◌+◌, ◌-◌, ◌<◌, ◌≤◌, Bool, ◌==◌, cond, List, [], ◌∷◌, ◌++◌, length, take, drop, map, get_or, inl, inr, refl, sym, ap, subst, ◌∙◌, arith, take-append-drop, length-append, length-drop, length-take-le}
 use Rattle.std.specs.Prelude.{sum_by}
 use Rattle.std.proofs.lemmas.Bool.{cases_Bool}
-use Rattle.std.proofs.lemmas.List.{drop-drop, take-map, drop-map, length-map, get_or-map, get_or-take, get_or-drop, same_lists}
+use Rattle.std.proofs.lemmas.List.{take-map, drop-map, length-map, get_or-map, get_or-take, get_or-drop, same_lists}
 use Rattle.std.proofs.lemmas.List.Sums.{sum_by-cons, sum_by-append}
+use Rattle.cs_base.proofs.ListLemmas.{drop-next as drop_next}
 use Rattle.lexer.specs.Characters.{line_feed, line_after}
 use Rattle.lexer.specs.Logical.{gone_length, logical_from, line_at}
 use Rattle.lexer.specs.Tokens.{Found, piece_of, piece_length, leaves_gap, line_front_after, expects_header, found_in}
-use Rattle.lexer.proofs.ScanLemmas.{line-step}
+use Rattle.lexer.proofs.EditedBytes.{line-next as line_next}
 use Rattle.list_cuts.specs.Cuts.{Cut, done, keep, list, Items, count_of, span_of, extent_of, IsOrder, picked, woven, gaps_of, arranged, items_of, AreOf, AreItemsOf}
 use Rattle.list_cuts.proofs.CutLemmas.{sum-arranged, length-arranged, short-drop}
 use Rattle.arranged_text_laws.specs.Settling.{Front}
@@ -166,17 +167,6 @@ sizes_rows (k ∷ ks) (l ∷ ls) e =
     let here = length-map k (λ (x : ℕ). l) in
     let rest = sizes_rows ks ls (omega (arith, e)) in
     omega (arith, a, b, here, rest)
-
-line_next : (bytes : List ℕ) (o c : ℕ) (cs : List ℕ) → drop o bytes ≡ c ∷ cs → line_at bytes (o + 1) ≡ line_after c (line_at bytes o)
-line_next bytes o c cs here =
-    let step = line-step bytes (c ∷ cs) o 1 (o + 1) (line_at bytes o) here refl refl in
-    elim (cases_Bool (c == line_feed)) [
-      | inl ends ↦ rw ends (sym (rw ends at step))
-      | inr on ↦ rw on (sym (rw (on, add-zero) at step))
-    ]
-
-drop_next : (bytes : List ℕ) (o c : ℕ) (cs : List ℕ) → drop o bytes ≡ c ∷ cs → drop (o + 1) bytes ≡ cs
-drop_next bytes o c cs here = sym (drop-drop 1 o bytes) ∙ ap (λ (zs : List ℕ). drop 1 zs) here
 
 pub marks_lines : (bytes : List ℕ) (skip at o : ℕ) (bs : List ℕ) → drop o bytes ≡ bs
     → map (λ (m : Mark). m.line) (marks_from bytes at (logical_from skip o bs)) ≡ together (rows (kept skip bs) (lines (line_at bytes o) bs))

@@ -11,6 +11,7 @@ use Rattle.lexer.specs.Tokens.{token_piece, piece_of, piece_length, comment_end,
 use Rattle.lexer.specs.Front.{quoted, quoted_kind, quoted_front, punctuator_length, plain_front, front_of}
 use Rattle.lexer.proofs.LocalLemmas.{option-cases, comment_end-local}
 use Rattle.lexer.proofs.PieceLocal.{token_piece-is}
+use Rattle.lexer.proofs.KindLemmas.{quote-nondigit}
 use Rattle.arranged_text_laws.specs.Settling.{Front, is_lone, is_stop, begins_stop, begins_quote, has_line_feed, asks_nothing, keeps_line, is_closed, halts, lies_within, is_settled}
 use Rattle.arranged_text_laws.proofs.StopLemmas.{ends, on_line_alone, quoted_stays, Quotes, plain_same, front_line}
 
@@ -111,9 +112,6 @@ block_stays stop c (x ∷ xs) ys zs h block shut within =
     ]
 
 -- ---- tokens
-
-quote-nondigit : (c : ℕ) → is_quote c ≡ true → is_nondigit c ≡ false
-quote-nondigit c h = grind (arith, nat_tests)
 
 quote-digit : (c : ℕ) → is_quote c ≡ true → is_digit c ≡ false
 quote-digit c h = grind (arith, nat_tests)

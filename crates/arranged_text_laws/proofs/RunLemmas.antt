@@ -3,6 +3,7 @@ use Rattle.std.proofs.Common.{◌≡◌, ℕ, suc, ◌+◌, ◌≤◌, Bool, tru
 use Rattle.std.specs.List.{list_any, onto_first}
 use Rattle.std.proofs.lemmas.Bool.{cases_Bool, and_parts}
 use Rattle.cs_base.specs.Token.{Token}
+use Rattle.cs_base.proofs.BoolLemmas.{not_both as true_false}
 use Rattle.line_shape.specs.declared.items.Item.{Item}
 use Rattle.line_shape.specs.declared.items.ItemKind.{ItemKind}
 use Rattle.line_shape.specs.declared.items.ItemKind.TheVariants.{Run}
@@ -10,6 +11,7 @@ use Rattle.line_shape.specs.Signs.{is_hash}
 use Rattle.line_shape.specs.Directives.{is_run}
 use Rattle.line_shape.specs.Items.{lines_of, line_kind, Piece, piece, onto_pieces, pieces_of, last_of, item_of, items_from, items_of}
 use Rattle.line_shape.proofs.KindLemmas.{is_run-line_kind}
+use Rattle.line_shape.proofs.PieceLemmas.{onto_pieces-directive as onto_other}
 use Rattle.list_cuts.specs.Cuts.{done, keep, list, Items, count_of, span_of, extent_of, IsOrder, picked, woven, gaps_of, arranged, items_of as cut_items_of, AreItemsOf}
 use Rattle.list_cuts.proofs.CutLemmas.{any-arranged, items_of-append, gaps_of-append, short-drop}
 use Rattle.arranged_text_laws.proofs.OutsideLemmas.{weave_of, list_arranged, woven_long}
@@ -72,11 +74,6 @@ kind_of_line t ps =
 
 pub text_line : (t : Token) (ps : List Placed) → is_hash t ≡ false → line_kind (line_from t ps) ≡ Run
 text_line t ps h = let l = head_line t ps in ap line_kind l.1 ∙ rw h refl
-
--- a line that is no run stays a piece, behind a run too
-onto_other : (line : Piece) (pieces : List Piece) → is_run line.kind ≡ false → onto_pieces line pieces ≡ line ∷ pieces
-onto_other line [] h = refl
-onto_other line (next ∷ pieces) h = rw h refl
 
 run_before : (toks : List Token) (line : Piece) (pieces : List Piece) → is_run line.kind ≡ false
     → onto_pieces (piece Run toks) (onto_pieces line pieces) ≡ piece Run toks ∷ onto_pieces line pieces
@@ -231,9 +228,6 @@ begins_first p h = (and_parts p.first (is_hash p.tok) h).0
 
 no_start : (p : Placed) (ps : List Placed) → begins_directive p ≡ true → goes_on (p ∷ ps) ≡ true → ⊥
 no_start p ps h on = let nost : not true ≡ true = ap not (sym h) ∙ on in absurd cc
-
-true_false : (b : Bool) → b ≡ true → b ≡ false → ⊥
-true_false b h k = let nost : true ≡ false = sym h ∙ k in absurd cc
 
 -- pieces of lists that are these
 pieces_at : (xs ys zs ws : List Placed) → xs ≡ ys → zs ≡ ws → SamePieces (all_pieces ys) (all_pieces ws) → SamePieces (all_pieces xs) (all_pieces zs)

@@ -6,6 +6,7 @@ use Rattle.std.proofs.lemmas.Bool.{cases_Bool, and_parts, leb-true, leb-false}
 use Rattle.std.proofs.lemmas.List.{drop-drop}
 use Rattle.cs_base.specs.Token.{Token}
 use Rattle.lexer.specs.Tokens.{tokens_of, firsts_of, open_comment_of}
+use Rattle.lexer.proofs.ScanLemmas.{firsts_of-each as file_firsts}
 use Rattle.line_shape.specs.declared.items.Item.{Item}
 use Rattle.line_shape.specs.declared.items.ItemKind.{ItemKind}
 use Rattle.line_shape.specs.declared.items.ItemKind.TheVariants.{Run}
@@ -14,7 +15,7 @@ use Rattle.line_shape.specs.Directives.{is_run}
 use Rattle.line_shape.specs.Items.{lines_of, line_kind, pieces_of, item_of, items_from, items_of}
 use Rattle.arranged_text_laws.specs.Runs.{Placed, begins_directive, in_text, text_behind, firsts_of as firsts_placed_of}
 use Rattle.arranged_text_laws.specs.FileItems.{placed}
-use Rattle.arranged_text_laws.proofs.FileItemLemmas.{file_firsts, toks_placed, firsts_placed}
+use Rattle.arranged_text_laws.proofs.FileItemLemmas.{toks_placed, firsts_placed}
 use Rattle.arranged_text_laws.proofs.RunLemmas.{line_from, all_lines, later_lines, run_in, behind_run, all_pieces, start_run, start_directive, kind_of_line}
 use Rattle.arranged_text_laws.specs.Lists.{begin_of, close_of}
 use Rattle.arranged_text_laws.specs.RunTokens.{IsTextAt, RunTokensAreText, RunListsAreText}

@@ -58,7 +58,7 @@ length_items is xs within =
     ∙ ap length (sym (masked_items-image not_first (λ y. y) nothing (λ x. refl) is xs) ∙ masked_items_same is (map nothing xs))
     ∙ length-take-le (span_of is) (map nothing xs) (rw (length-map xs nothing) within)
 
-length_head : (xs : List Bool) → length (head_with not_first xs) ≡ length xs
+pub length_head : (xs : List Bool) → length (head_with not_first xs) ≡ length xs
 length_head [] = refl
 length_head (x ∷ xs) = refl
 

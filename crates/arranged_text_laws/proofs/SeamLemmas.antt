@@ -2,6 +2,7 @@
 use Rattle.std.proofs.Common.{◌≡◌, ℕ, zero, suc, ◌+◌, ◌-◌, ◌<◌, ◌≤◌, Bool, true, false, not, ◌&&◌, ◌==◌, cond, List, [], ◌∷◌, ◌++◌, length, take, drop, map, inl, inr, refl, sym, ap, subst, ◌∙◌, arith, take-append-drop, take-add}
 use Rattle.std.proofs.lemmas.List.{drop-drop}
 use Rattle.std.proofs.lemmas.Bool.{cases_Bool, and_parts, eqb-true, eq-eqb}
+use Rattle.cs_base.proofs.BoolLemmas.{not_true as not-true}
 use Rattle.lexer.specs.Characters.{line_feed, carriage_return, backslash, begins}
 use Rattle.lexer.specs.Logical.{new_line_length, gone_length, logical_from, logical_of, spelling}
 use Rattle.list_cuts.specs.Cuts.{Cut, done, keep, list, Items, ended, item, span_of, extent_of, IsOrder, arranged, AreOf}
@@ -37,10 +38,6 @@ length-kept zero (c ∷ cs) =
     ]
 
 -- ---- parts
-
-not-true : (b : Bool) → not b ≡ true → b ≡ false
-not-true true h = absurd cc
-not-true false h = refl
 
 record Plain (c : ℕ) : Type 0 where
   feed : (c == line_feed) ≡ false

@@ -3,15 +3,10 @@ use Rattle.std.proofs.Common.{◌≡◌, Bool, true, false, not, ◌&&◌, ◌||
 use Rattle.std.specs.Str.{bytes_eq}
 use Rattle.std.proofs.lemmas.Bool.{and_parts}
 use Rattle.std.proofs.lemmas.Slice.Eq.{bytes_eq-Decides}
-use Rattle.cs_base.specs.declared.tokens.Kind.{Kind}
-use Rattle.cs_base.specs.declared.tokens.Kind.TheVariants.{Ident}
 use Rattle.cs_base.specs.Token.{Token}
-use Rattle.line_shape.specs.Signs.{is_identifier, is_punctuator, is_name, is_hash, is_open, is_close}
+use Rattle.line_shape.specs.Signs.{is_punctuator, is_name, is_hash, is_open, is_close}
+use Rattle.line_shape.proofs.SignLemmas.{name_no_sign}
 use Rattle.arranged_text_laws.specs.Lists.{may_begin, may_end}
-
-name_no_sign : (k : Kind) → is_identifier k ≡ true → is_punctuator k ≡ false
-name_no_sign Ident h = refl
-name_no_sign _ h = absurd cc
 
 pub names_may_begin : (t : Token) → is_name t ≡ true → may_begin t ≡ true
 unfolding is_hash

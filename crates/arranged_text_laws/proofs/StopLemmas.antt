@@ -4,11 +4,12 @@ use Rattle.std.specs.List.{prefix_len, list_all}
 use Rattle.std.specs.Option.{option_map}
 use Rattle.std.proofs.lemmas.Bool.{cases_Bool, and_parts, eqb-true}
 use Rattle.std.proofs.lemmas.Bool.Decides.{nat_tests}
+use Rattle.cs_base.proofs.BoolLemmas.{not_true as not-true}
 use Rattle.lexer.specs.Characters.{line_feed, single_quote, capital_l, backslash, is_nondigit, is_digit, is_word, is_quote, is_on_line, begins}
 use Rattle.lexer.specs.Spelling.{may_follow, begins_number, begins_with_digit, header_close, punctuators_of_one, punctuators_of_two, punctuators_of_three, punctuators_of_four}
 use Rattle.lexer.specs.Tokens.{one_more}
 use Rattle.lexer.specs.Front.{count_following, closing, quoted, quoted_kind, wide_front, header_closing, header_length, begins_with, begins_with_one, punctuator_length, plain_front, front_of}
-use Rattle.lexer.proofs.LocalLemmas.{option-cases}
+use Rattle.lexer.proofs.LocalLemmas.{option-cases, quoted-local as quoted_within}
 use Rattle.arranged_text_laws.specs.Settling.{is_stop, begins_stop, has_line_feed}
 
 -- ---- stops
@@ -95,10 +96,6 @@ number_alone c (x ∷ xs) ys h = refl
 
 abbrev plain_word : List ℕ → Bool
 plain_word w = list_all (λ b. not (is_stop b)) w
-
-not-true : (b : Bool) → not b ≡ true → b ≡ false
-not-true true h = absurd cc
-not-true false h = refl
 
 word-here : (w : ℕ) (ws ys : List ℕ) → is_stop w ≡ false → begins_stop ys ≡ true → begins_with (w ∷ ws) ys ≡ false
 word-here w ws [] k h = refl
@@ -188,46 +185,6 @@ pub one_more-some : (x : Option ℕ) (j : ℕ) → one_more x ≡ Some j → (i 
 one_more-some None j is = absurd cc
 one_more-some (Some i) j is = (i, refl, cc)
 
-closing-some : (quote : ℕ) (escaped : Bool) (cs : List ℕ) (j : ℕ) → closing quote escaped cs ≡ Some j → 1 ≤ j
-closing-some quote escaped [] j is = absurd cc
-closing-some quote true (c ∷ cs) j is =
-    elim (cases_Bool (c == line_feed)) [
-      | inl ends_here ↦ let none = rw ends_here at is in absurd cc
-      | inr on ↦ let i = one_more-some (closing quote false cs) j (rw on at is) in omega (arith, i.2)
-    ]
-closing-some quote false (c ∷ cs) j is =
-    elim (cases_Bool (c == quote)) [
-      | inl closed ↦ let one : Some 1 ≡ Some j = rw closed at is in let same : 1 ≡ j = cc in omega arith
-      | inr open_still ↦ elim (cases_Bool (c == line_feed)) [
-        | inl ends_here ↦ let none = rw (open_still, ends_here) at is in absurd cc
-        | inr on ↦ let i = one_more-some (closing quote (c == backslash) cs) j (rw (open_still, on) at is) in omega (arith, i.2)
-      ]
-    ]
-
-more-again : (x z : Option ℕ) (j : ℕ) → one_more x ≡ Some j → ((i : ℕ) → x ≡ Some i → j ≡ i + 1 → z ≡ Some i) → one_more z ≡ Some j
-more-again x z j is again =
-    let i = one_more-some x j is in
-    rw (again i.0 i.1 i.2) (ap (λ n. Some n) (sym i.2))
-
-closing_within : (quote : ℕ) (escaped : Bool) (xs ys zs : List ℕ) (j : ℕ) → closing quote escaped (xs ++ ys) ≡ Some j → j ≤ length xs
-    → closing quote escaped (xs ++ zs) ≡ Some j
-closing_within quote escaped [] ys zs j is within = let some = closing-some quote escaped ys j is in absurd (omega arith)
-closing_within quote true (x ∷ xs) ys zs j is within =
-    elim (cases_Bool (x == line_feed)) [
-      | inl ends_here ↦ let none = rw ends_here at is in absurd cc
-      | inr on ↦ rw on (more-again (closing quote false (xs ++ ys)) (closing quote false (xs ++ zs)) j (rw on at is)
-          (λ i h e. closing_within quote false xs ys zs i h (omega arith)))
-    ]
-closing_within quote false (x ∷ xs) ys zs j is within =
-    elim (cases_Bool (x == quote)) [
-      | inl closed ↦ rw closed (rw closed at is)
-      | inr open_still ↦ elim (cases_Bool (x == line_feed)) [
-        | inl ends_here ↦ let none = rw (open_still, ends_here) at is in absurd cc
-        | inr on ↦ rw (open_still, on) (more-again (closing quote (x == backslash) (xs ++ ys)) (closing quote (x == backslash) (xs ++ zs)) j
-            (rw (open_still, on) at is) (λ i h e. closing_within quote (x == backslash) xs ys zs i h (omega arith)))
-      ]
-    ]
-
 quoted-some : (quote : ℕ) (cs : List ℕ) (j : ℕ) → quoted quote cs ≡ Some j
     → ((quote == single_quote && begins single_quote cs) ≡ false) × (closing quote false cs ≡ Some j)
 quoted-some quote cs j is =
@@ -235,16 +192,6 @@ quoted-some quote cs j is =
       | inl empty ↦ let none = rw empty at is in absurd cc
       | inr some ↦ (some, rw some at is)
     ]
-
-quoted_within : (quote : ℕ) (xs ys zs : List ℕ) (j : ℕ) → quoted quote (xs ++ ys) ≡ Some j → j ≤ length xs → quoted quote (xs ++ zs) ≡ Some j
-quoted_within quote [] ys zs j is within =
-    let parts = quoted-some quote ys j is in
-    let some = closing-some quote false ys j parts.1 in
-    absurd (omega arith)
-quoted_within quote (x ∷ xs) ys zs j is within =
-    let parts = quoted-some quote (x ∷ (xs ++ ys)) j is in
-    let some : (quote == single_quote && x == single_quote) ≡ false = parts.0 in
-    rw some (closing_within quote false (x ∷ xs) ys zs j parts.1 within)
 
 -- a quoted text that closes in xs, or that a line feed in xs keeps open
 pub quoted_stays : (quote : ℕ) (xs ys zs : List ℕ) → ((j : ℕ) → quoted quote (xs ++ ys) ≡ Some j → j ≤ length xs)

@@ -1,12 +1,13 @@
 -- What stands before and behind good tokens of a file, and how they begin and end.
-use Rattle.std.proofs.Common.{◌≡◌, ℕ, zero, suc, ◌+◌, ◌<◌, ◌≤◌, Bool, true, false, not, ◌&&◌, ◌||◌, ◌==◌, nat_le, List, [], ◌∷◌, ◌++◌, length, take, drop, map, get_or, Option, Some, None, codes, inl, inr, refl, sym, ap, subst, ◌∙◌, arith, length-drop}
-use Rattle.std.specs.Prelude.{slice_get, unwrap_or}
+use Rattle.std.proofs.Common.{◌≡◌, ℕ, zero, suc, ◌+◌, ◌<◌, ◌≤◌, Bool, true, false, not, ◌&&◌, ◌||◌, ◌==◌, nat_le, List, [], ◌∷◌, ◌++◌, length, take, drop, map, get_or, Some, None, codes, inl, inr, refl, sym, ap, subst, ◌∙◌, arith, length-drop}
+use Rattle.std.specs.Prelude.{slice_get}
 use Rattle.std.specs.Str.{bytes_eq}
 use Rattle.std.proofs.lemmas.Bool.{cases_Bool, and_parts, or_cases, leb-true, leb-false}
 use Rattle.std.proofs.lemmas.Slice.Eq.{bytes_eq-Decides}
 use Rattle.std.proofs.lemmas.Option.{slice_get_within}
 use Rattle.std.proofs.lemmas.List.{drop-map}
 use Rattle.cs_base.specs.Token.{Token}
+use Rattle.cs_base.proofs.ListLemmas.{take_at as take_suc}
 use Rattle.lexer.specs.Characters.{slash, star, is_white, begins}
 use Rattle.lexer.specs.Front.{front_of}
 use Rattle.lexer.specs.Tokens.{Found, FoundToken, FoundOpen, is_hash_text, is_line_start, with_token, expects_header, kind_or_other, leaves_gap, line_front_after, piece_of, found_in, tokens_of, open_comment_of}
@@ -32,11 +33,6 @@ use Rattle.arranged_text_laws.proofs.PartFound.{StateAt, entries_from}
 use Rattle.arranged_text_laws.proofs.Fine.{Fine, spelled_fine}
 
 -- ---- a token of a list
-
-take_suc : {X : Type 0} (xs : List X) (k : ℕ) (x : X) → slice_get xs k ≡ Some x → take (suc k) xs ≡ take k xs ++ x ∷ []
-take_suc [] k x there = absurd cc
-take_suc (y ∷ xs) zero x there = ap (λ (z : _). z ∷ []) (ap (λ (o : Option _). unwrap_or o x) there)
-take_suc (y ∷ xs) (suc k) x there = ap (λ (l : List _). y ∷ l) (take_suc xs k x there)
 
 plain_last : (fs : List Found) (f : Found) (b : Bool) → is_plain_at_end b (fs ++ f ∷ []) ≡ is_plain_at_end (is_plain_at_end b fs) (f ∷ [])
 plain_last [] f b = refl

@@ -4,9 +4,11 @@ use Rattle.std.specs.List.{list_all, list_any}
 use Rattle.std.proofs.lemmas.List.{take-map, drop-map, map-append, length-map}
 use Rattle.cs_base.specs.declared.tokens.Kind.TheVariants.{Other}
 use Rattle.cs_base.specs.Token.{Token, token}
+use Rattle.cs_base.proofs.ListLemmas.{map-map, map-same}
 use Rattle.lexer.specs.Logical.{Character, logical_of}
 use Rattle.lexer.specs.Places.{pos}
 use Rattle.lexer.specs.Tokens.{Found, FoundToken, FoundOpen, piece_of, piece_length, leaves_gap, line_front_after, expects_header, found_in, found_of, tokens_in, firsts_in, open_in, tokens_of, firsts_of, open_comment_of}
+use Rattle.lexer.proofs.ScanLemmas.{firsts_of-file as firsts_of_file}
 use Rattle.list_cuts.specs.Cuts.{Cut, done, keep, list, Items, ended, item, span_of, IsOrder, arranged, AreOf}
 use Rattle.list_cuts.proofs.CutLemmas.{arranged-map, length-arranged, any-arranged}
 use Rattle.arranged_text_laws.specs.Labels.{head_with, masked, masked_items}
@@ -84,14 +86,6 @@ outside-image g done xs ys h = ap (map g) h
 outside-image g (keep n c) xs ys h =
     (take-map g n xs ∙ ap (map g) h.0 ∙ sym (take-map g n ys), rw (drop-map g n xs, drop-map g n ys) (outside-image g c (drop n xs) (drop n ys) h.1))
 outside-image g (list is c) xs ys h = rw (drop-map g (span_of is) xs, drop-map g (span_of is) ys) (outside-image g c (drop (span_of is) xs) (drop (span_of is) ys) h)
-
-pub map-map : {X Y Z : Type 0} (f : Y → Z) (g : X → Y) (xs : List X) → map f (map g xs) ≡ map (λ x. f (g x)) xs
-map-map f g [] = refl
-map-map f g (x ∷ xs) = ap (λ (l : List _). f (g x) ∷ l) (map-map f g xs)
-
-pub map-same : {X Y : Type 0} (f g : X → Y) (xs : List X) → ((x : X) → f x ≡ g x) → map f xs ≡ map g xs
-map-same f g [] same = refl
-map-same f g (x ∷ xs) same = ap (λ y. y ∷ map f xs) (same x) ∙ ap (λ (l : List _). g x ∷ l) (map-same f g xs same)
 
 -- ---- no comment is opened
 
@@ -194,10 +188,6 @@ shut_same fs gs h all =
   where
     shuts : (fs : List Found) → map is_shut fs ≡ map shut_sort (map sort_of fs)
     shuts fs = map-same is_shut (λ f. shut_sort (sort_of f)) fs (λ f. sym (sort_shut f)) ∙ sym (map-map shut_sort sort_of fs)
-
-pub firsts_of_file : (file : ℕ) (bytes : List ℕ) → firsts_in (found_of file bytes) ≡ firsts_of bytes
-unfolding firsts_of
-firsts_of_file file bytes = firsts_sorts (found_of file bytes) (found_of 0 bytes) (file_sorts file bytes)
 
 pub shut_file : (file : ℕ) (bytes : List ℕ) → open_comment_of bytes ≡ None → list_all is_shut (found_of file bytes) ≡ true
 unfolding open_comment_of

@@ -7,7 +7,7 @@ use Rattle.arranged_text_laws.specs.Weighed.{total, weighed, weighed_items}
 use Rattle.arranged_text_laws.proofs.Formed.{IsKept, Formed, FormedItems}
 use Rattle.arranged_text_laws.proofs.Widened.{widened, widened_items, Widens, Point, at_begin, at_end, at_start, span_some, span_widened}
 
-total_append : (xs ys : List ℕ) → total (xs ++ ys) ≡ total xs + total ys
+pub total_append : (xs ys : List ℕ) → total (xs ++ ys) ≡ total xs + total ys
 total_append [] ys = omega arith
 total_append (x ∷ xs) ys = let rest = total_append xs ys in omega (arith, rest)
 

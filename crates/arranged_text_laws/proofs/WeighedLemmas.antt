@@ -1,5 +1,5 @@
 -- What elements bring is arranged as they are.
-use Rattle.std.proofs.Common.{◌≡◌, ℕ, zero, suc, ◌+◌, ◌-◌, Bool, true, ◌==◌, List, [], ◌∷◌, ◌++◌, length, take, drop, map, refl, sym, ap, ◌∙◌, arith, length-append, take-append-drop, take-add}
+use Rattle.std.proofs.Common.{◌≡◌, ℕ, zero, suc, ◌+◌, ◌-◌, Bool, true, ◌==◌, List, [], ◌∷◌, ◌++◌, length, take, drop, map, refl, sym, ap, ◌∙◌, arith, length-append, take-append-drop}
 use Rattle.std.proofs.lemmas.Bool.{eqb-true}
 use Rattle.std.proofs.lemmas.Grind.{flat_map-append}
 use Rattle.std.proofs.lemmas.List.{drop-drop, take-map, drop-map}
@@ -8,6 +8,7 @@ use Rattle.list_cuts.specs.Cuts.{Cut, done, keep, list, Items, ended, item, span
 use Rattle.arranged_text_laws.specs.Labels.{head_with, masked, masked_items, starts, IsLed, Firsts, FirstsOfItems}
 use Rattle.arranged_text_laws.specs.Weighed.{together, total, weighed, weighed_items}
 use Rattle.arranged_text_laws.proofs.FlowLemmas.{take_front, drop_front}
+use Rattle.arranged_text_laws.proofs.WeighedCut.{total_both}
 
 abbrev widths : {X : Type 0} → List (List X) → List ℕ
 widths xss = map length xss
@@ -18,10 +19,6 @@ together-append xss yss = flat_map-append (λ xs. xs) xss yss
 pub length-together : {X : Type 0} (xss : List (List X)) → length (together xss) ≡ total (widths xss)
 length-together [] = refl
 length-together (xs ∷ xss) = length-append xs (together xss) ∙ ap (λ (n : ℕ). length xs + n) (length-together xss)
-
-total-append : (xs ys : List ℕ) → total (xs ++ ys) ≡ total xs + total ys
-total-append [] ys = omega arith
-total-append (x ∷ xs) ys = let rest = total-append xs ys in omega (arith, rest)
 
 -- the first elements bring the first of what is brought
 pub cut_together : {X : Type 0} (n : ℕ) (xss : List (List X))
@@ -48,9 +45,6 @@ picked_together [] items = refl
 picked_together (k ∷ order) items =
     ap (λ (y : List _). y ∷ map together (picked order items)) (sym (listn.get_or-map together items (k - 1) []))
     ∙ ap (λ (ys : List (List _)). item_at (map together items) k ∷ ys) (picked_together order items)
-
-total_both : (n m : ℕ) (ws : List ℕ) → total (take (n + m) ws) ≡ total (take n ws) + total (take m (drop n ws))
-total_both n m ws = ap total (take-add n m ws) ∙ total-append (take n ws) (take m (drop n ws))
 
 pub span_weighed : (is : Items) (ws : List ℕ) → span_of (weighed_items is ws) ≡ total (take (span_of is) ws)
 unfolding weighed_items span_of

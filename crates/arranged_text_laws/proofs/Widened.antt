@@ -5,7 +5,8 @@ use Rattle.list_cuts.specs.declared.spans.Span.{Span}
 use Rattle.list_cuts.specs.Cuts.{Cut, done, keep, list, Items, ended, item, count_of, span_of, extent_of}
 use Rattle.list_cuts.specs.Spans.{end_of}
 use Rattle.list_cuts.specs.CutOf.{front, back, is_between, is_free, cut_items, rest_of, cut_of, holds_items, is_around, are_nested}
-use Rattle.arranged_text_laws.proofs.Formed.{IsKept, Formed, FormedItems, falls, front_short, back_short, between_short, free_short, front_past, back_past, between_past, free_between, parts_formed, Chain, chain_end, Each, parts_each, items_formed, AllSo, cut_formed}
+use Rattle.list_cuts.proofs.CutOfLemmas.{free-between as free_between}
+use Rattle.arranged_text_laws.proofs.Formed.{IsKept, Formed, FormedItems, falls, front_short, back_short, between_short, free_short, front_past, back_past, between_past, parts_formed, Chain, chain_end, Each, parts_each, items_formed, AllSo, cut_formed}
 
 -- ---- the cut
 

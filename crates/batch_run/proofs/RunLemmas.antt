@@ -1,8 +1,9 @@
 -- A batch behind some of its lines.
-use Rattle.std.proofs.Common.{◌≡◌, ◌++◌, ℕ, Bool, true, false, ◌||◌, List, [], ◌∷◌, Ok, refl, ap, sym, subst, ◌∙◌, append_assoc}
+use Rattle.std.proofs.Common.{◌≡◌, ◌++◌, ℕ, Bool, false, ◌||◌, List, [], ◌∷◌, Ok, refl, ap, sym, subst, ◌∙◌, append_assoc}
 use Rattle.std.specs.List.{flat_map, list_any}
 use Rattle.cs_base.specs.Edit.{Edit, IsKept, with_edits}
 use Rattle.cs_base.specs.Outside.{FileMap}
+use Rattle.cs_base.proofs.BoolLemmas.{or_assoc, or-false as or_false}
 use Rattle.batch_run.specs.Line.{LineValue}
 use Rattle.ws_file.specs.Workspace.{WorkspaceValue}
 use Rattle.analysis.specs.Below.source_files.Files.{Source, source_of}
@@ -29,14 +30,6 @@ text_last : (plans : List Plan) (plan : Plan) → flat_map plan_text (plans ++ p
 text_last [] plan = append_none (plan_text plan)
 text_last (p ∷ plans) plan =
     ap (λ (ys : List ℕ). plan_text p ++ ys) (text_last plans plan) ∙ sym (append_assoc (plan_text p) (flat_map plan_text plans) (plan_text plan))
-
-or_false : (b : Bool) → (b || false) ≡ b
-or_false true = refl
-or_false false = refl
-
-or_assoc : (a b c : Bool) → (a || (b || c)) ≡ ((a || b) || c)
-or_assoc true b c = refl
-or_assoc false b c = refl
 
 refused_last : (plans : List Plan) (plan : Plan) → list_any is_refused (plans ++ plan ∷ []) ≡ (list_any is_refused plans || is_refused plan)
 refused_last [] plan = or_false (is_refused plan)

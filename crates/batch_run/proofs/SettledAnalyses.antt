@@ -1,5 +1,5 @@
 -- No file that was found stays unopened where a workspace is analysed: so the files that an analysis keeps are all that it found.
-use Rattle.std.proofs.Common.{◌≡◌, ℕ, ◌+◌, Bool, true, false, ◌||◌, List, [], ◌∷◌, ◌++◌, Option, None, Some, Ok, Err, refl, sym, subst, ◌∙◌, inl, inr, arith}
+use Rattle.std.proofs.Common.{◌≡◌, ℕ, ◌+◌, true, false, List, [], ◌∷◌, ◌++◌, Option, None, Some, Ok, Err, refl, sym, subst, ◌∙◌, inl, inr}
 use Rattle.std.specs.List.{list_any}
 use Rattle.std.specs.Str.{bytes_eq}
 use Rattle.std.proofs.lemmas.Bool.{cases_Bool, or_parts, and_parts, not-true}
@@ -7,6 +7,9 @@ use Rattle.cs_base.specs.Outside.{FileMap, bytes_at}
 use Rattle.cs_base.specs.Token.{Token}
 use Rattle.cs_base.specs.Units.{UnitValue}
 use Rattle.cs_base.proofs.FileMapLemmas.{bytes_eq-same, bytes_eq-equal}
+use Rattle.cs_base.proofs.BoolLemmas.{or_right as or-true}
+use Rattle.cs_base.proofs.ListLemmas.{bytes_eq-apart as turned}
+use Rattle.cs_base.proofs.AnswerLemmas.{map_err_ok as unmapped}
 use Rattle.analysis.specs.Below.lexer.FileText.{file_text}
 use Rattle.ws_file.specs.Workspace.{WorkspaceValue}
 use Rattle.analysis.specs.Below.source_files.Faults.{Fault}
@@ -21,7 +24,7 @@ use Rattle.analysis.specs.Below.include_tree.Unit.{unit_outcome}
 use Rattle.analysis.proofs.Below.include_tree.StayLemmas.{Stays}
 use Rattle.analysis.specs.Analysis.{UnitsValue, AnalysisValue, analysis_and, with_unit, unit_read, analysed_from, analysis_of}
 use Rattle.analysis.specs.Texts.{UnitFault, unit_fault, unit_with}
-use Rattle.analysis.proofs.MadeLemmas.{ok_holds, done_first, unmapped}
+use Rattle.analysis.proofs.MadeLemmas.{ok_holds, done_first}
 use Rattle.batch_run.proofs.SettledTables.{IsSettled, AreSettled}
 use Rattle.batch_run.proofs.SettledWalk.{unit_settles}
 
@@ -67,18 +70,6 @@ file_of path (Some bytes) = (path, bytes) ∷ []
 abbrev pub kept_files : Table → FileMap
 kept_files [] = []
 kept_files (e ∷ table) = file_of e.path (kept_bytes e.found) ++ kept_files table
-
-turned : (p q : List ℕ) → bytes_eq p q ≡ false → bytes_eq q p ≡ false
-turned p q apart = elim (cases_Bool (bytes_eq q p)) [
-  | inl same ↦
-      let there : bytes_eq p p ≡ false = subst (λ (r : List ℕ). bytes_eq p r ≡ false) (bytes_eq-equal q p same) apart in
-      let wrong : true ≡ false = sym (bytes_eq-same p) ∙ there in
-      absurd (cc)
-  | inr other ↦ other
-]
-
-or-true : (a b : Bool) → b ≡ true → (a || b) ≡ true
-or-true a b h = grind (arith, h)
 
 -- a path that is not that of the first file
 other_front : (own path : List ℕ) (o : Option (List ℕ)) (rest : FileMap) → bytes_eq own path ≡ false

@@ -13,10 +13,12 @@ use Rattle.analysis.specs.Below.source_files.Files.{Source, Found, Lines, Absent
 use Rattle.analysis.specs.Below.source_files.Faults.{Fault, fault, place_in}
 use Rattle.analysis.specs.Below.source_files.Opening.{Reader, Opening, file_read, readable, first_opened, are_too_many, opened_as, opening}
 use Rattle.analysis.specs.Below.source_files.Search.{Header, Searched, candidates_of, search, search_on}
-use Rattle.analysis.specs.Below.unit_steps.State.{Context, State}
+use Rattle.analysis.specs.Below.unit_steps.State.{Context, State, only}
 use Rattle.analysis.specs.Below.include_tree.OpeningStep.{with_opened, open_file}
 use Rattle.analysis.specs.Below.include_tree.Including.{open_searched, open_header}
+use Rattle.analysis.specs.Below.include_tree.Asking.{there, is_there}
 use Rattle.analysis.specs.Below.include_tree.Laws.{IfDone}
+use Rattle.analysis.proofs.Below.include_tree.OutcomeLemmas.{onward_done}
 use Rattle.analysis.proofs.Below.include_tree.StayLemmas.{Stays}
 
 -- a file that was found is open
@@ -183,3 +185,19 @@ header_settles ctx file at next header s h =
     let paths = candidates_of next header s.behind file.path ctx.unit in
     let found : Searched = search ctx.source paths s.table in
     searched_settles ctx file at s found found.path (search_settles ctx.source paths s.table h)
+
+-- whether the file of a header is there
+there_settles : (ctx : Context) (file : SourceFile) (at : Pos) (s : State) (found : Searched) (o : Option (List ℕ)) → SettledSearch o found.table
+    → IfDone (Stays {A = Bool} AreSettled) (there ctx file at s found o)
+there_settles ctx file at s found None h = h
+there_settles ctx file at s found (Some path) h =
+    let t : State = record s { table = found.table } in
+    onward_done (Stays {A = SourceFile} AreSettled) (Stays {A = Bool} AreSettled) (open_file ctx (place_in file at) path t) (λ f u. only true u)
+    (open_settles ctx (place_in file at) path t h) (λ f u g. g)
+
+pub is_there_settles : (ctx : Context) (file : SourceFile) (at : Pos) (next : Bool) (header : Header) (s : State) → AreSettled s.table
+    → IfDone (Stays {A = Bool} AreSettled) (is_there ctx file at next header s)
+is_there_settles ctx file at next header s h =
+    let paths = candidates_of next header s.behind file.path ctx.unit in
+    let found : Searched = search ctx.source paths s.table in
+    there_settles ctx file at s found found.path (search_settles ctx.source paths s.table h)

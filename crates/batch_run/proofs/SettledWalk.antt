@@ -12,7 +12,7 @@ use Rattle.analysis.specs.Below.source_files.Files.{Source, SourceFile, Made, Ca
 use Rattle.analysis.specs.Below.source_files.Opening.{Reader}
 use Rattle.analysis.specs.Below.source_files.Faults.{fault_at, first_place}
 use Rattle.analysis.specs.Below.unit_steps.Notes.{Reaches, Entered, ReadOnce}
-use Rattle.analysis.specs.Below.unit_steps.State.{Context, context, State, did, Outcome, only}
+use Rattle.analysis.specs.Below.unit_steps.State.{Context, context, State, did, Outcome, only, onward}
 use Rattle.analysis.specs.Below.include_tree.Sections.{Group, Processed, Awaited, Over, Skipped, Section, section, are_processed, group_of_else, Turn, Opens, GoesOn, GoesLast, Ends, Stays as Remains, turn_of}
 use Rattle.analysis.specs.Below.source_files.Search.{Header, behind_of}
 use Rattle.analysis.specs.Below.include_tree.OpeningStep.{open_file}
@@ -21,12 +21,15 @@ use Rattle.analysis.specs.Below.unit_steps.Directives.{opens_with, goes_with, op
 use Rattle.analysis.specs.Below.include_tree.Including.{open_header, Process, Inner, left_to, entered, unless_once, included, include_of, include_next_of}
 use Rattle.analysis.specs.Below.unit_steps.IncludeNames.{header_or, computed_header, header_named, written_header, next_named}
 use Rattle.analysis.specs.Below.source_files.HeaderNames.{header_of_toks, is_header, header_in, header_at, begins_header}
+use Rattle.analysis.specs.Below.unit_steps.Conditions.{asked_toks, judged}
+use Rattle.analysis.specs.Below.unit_steps.Questions.{Question, Unasked, Looks, Lacks, asks_next, questions_from, found_as}
+use Rattle.analysis.specs.Below.include_tree.Asking.{is_there, look_for, look, looked, gnu_known, gnu_asked, gnu_holds, asks_files, opens_in, goes_in}
 use Rattle.analysis.specs.Below.include_tree.Walk.{ItemText, items_in, processed, Stepped, stepped, go_on, opens, goes_on, reaching_alive, in_section, turned, is_foreign, foreign_line, item_step, file_end, walk, file_items}
 use Rattle.analysis.specs.Below.include_tree.Unit.{first_state, outer_file, main_file, unit_outcome}
 use Rattle.analysis.specs.Below.include_tree.Laws.{IfDone}
 use Rattle.analysis.proofs.Below.include_tree.OutcomeLemmas.{noted_done, onward_done, cond_done}
-use Rattle.analysis.proofs.Below.include_tree.StayLemmas.{Stays, expanded_stays, run_stays, define_stays, undef_stays, asks_stays, holds_stays}
-use Rattle.batch_run.proofs.SettledTables.{AreSettled, SettledBut, settled_push, but_all, asked_but, open_settles, header_settles as found_settles}
+use Rattle.analysis.proofs.Below.include_tree.StayLemmas.{Stays, expanded_stays, run_stays, define_stays, undef_stays, asks_stays, asked_stays, judged_stays, holds_stays}
+use Rattle.batch_run.proofs.SettledTables.{AreSettled, SettledBut, settled_push, but_all, asked_but, open_settles, is_there_settles, header_settles as found_settles}
 
 -- ---- include lines
 
@@ -132,6 +135,41 @@ processed_settles ctx inner p file kind.Line at toks s h = h
 processed_settles ctx inner p file kind.Pragma at toks s h = pragma_settles (is_gnu ctx.unit.standard) file at toks s h
 processed_settles ctx inner p file kind.Empty at toks s h = h
 
+-- ---- conditions of GNU C
+
+look_settles : (ctx : Context) (file : SourceFile) (at : Pos) (q : Question) (s : State) → AreSettled s.table → IfDone (Stays {A = Token} AreSettled) (look ctx file at q s)
+look_settles ctx file at (Unasked t) s h = h
+look_settles ctx file at (Looks word operand) s h =
+    onward_done (Stays {A = Header} AreSettled) (Stays {A = Token} AreSettled) (header_or file at operand s (header_of_toks operand)) (look_for ctx file at word)
+    (header_or_settles file at operand s (header_of_toks operand) h)
+    (λ header t g. onward_done (Stays {A = Bool} AreSettled) (Stays {A = Token} AreSettled) (is_there ctx file at (asks_next word) header t) (found_as word)
+    (is_there_settles ctx file at (asks_next word) header t g) (λ b u i. i))
+look_settles ctx file at Lacks s h = tt
+
+looked_settles : (ctx : Context) (file : SourceFile) (at : Pos) (qs : List Question) (s : State) → AreSettled s.table → IfDone (Stays {A = List Token} AreSettled) (looked ctx file at qs s)
+unfolding looked
+looked_settles ctx file at [] s h = h
+looked_settles ctx file at (q ∷ qs) s h =
+    onward_done (Stays {A = Token} AreSettled) (Stays {A = List Token} AreSettled) (look ctx file at q s) (λ t u. onward (looked ctx file at qs u) (λ toks v. only (t ∷ toks) v)) (look_settles ctx file at q s h)
+    (λ t u g. onward_done (Stays {A = List Token} AreSettled) (Stays {A = List Token} AreSettled) (looked ctx file at qs u) (λ toks v. only (t ∷ toks) v) (looked_settles ctx file at qs u g) (λ toks v i. i))
+
+known_settles : (ctx : Context) (file : SourceFile) (at : Pos) (toks : List Token) (s : State) → AreSettled s.table → IfDone (Stays {A = Bool} AreSettled) (gnu_known ctx file at toks s)
+known_settles ctx file at toks s h =
+    onward_done (Stays {A = List Token} AreSettled) (Stays {A = Bool} AreSettled) (looked ctx file at (questions_from false 0 toks) s) (judged file at)
+    (looked_settles ctx file at (questions_from false 0 toks) s h) (λ out t g. judged_stays AreSettled file at out t g)
+
+asked_settles : (ctx : Context) (file : SourceFile) (at : Pos) (toks : List Token) (s : State) → AreSettled s.table → IfDone (Stays {A = Bool} AreSettled) (gnu_asked ctx file at toks s)
+asked_settles ctx file at toks s h =
+    onward_done (Stays {A = List Token} AreSettled) (Stays {A = Bool} AreSettled) (asked_toks file at toks s) (gnu_known ctx file at) (asked_stays AreSettled file at toks s h)
+    (λ out t g. known_settles ctx file at out t g)
+
+gnu_settles : (ctx : Context) (file : SourceFile) (at : Pos) (toks : List Token) (s : State) → AreSettled s.table → IfDone (Stays {A = Bool} AreSettled) (gnu_holds ctx file at toks s)
+gnu_settles ctx file at toks s h =
+    onward_done (Stays {A = List Token} AreSettled) (Stays {A = Bool} AreSettled) (looked ctx file at (questions_from true 0 toks) s) (gnu_asked ctx file at)
+    (looked_settles ctx file at (questions_from true 0 toks) s h) (λ out t g. asked_settles ctx file at out t g)
+
+-- ---- sections
+
 opens_with_settles : (k : ItemKind) (file : SourceFile) (at : Pos) (toks : List Token) (s : State) → AreSettled s.table
     → IfDone (Stays {A = Bool} AreSettled) (opens_with k file at toks s)
 opens_with_settles kind.If file at toks s h = holds_stays AreSettled file at (drop 2 toks) s h
@@ -151,12 +189,18 @@ opens_with_settles kind.Error file at toks s h = tt
 opens_with_settles kind.Pragma file at toks s h = tt
 opens_with_settles kind.Empty file at toks s h = tt
 
-opens_settles : (file : SourceFile) (k : ℕ) (i : ItemText) (sections : List Section) (s : State) → AreSettled s.table
-    → IfDone (Stays {A = Stepped} AreSettled) (opens file k i sections s)
-opens_settles file k i sections s h =
+opens_in_settles : (ctx : Context) (k : ItemKind) (file : SourceFile) (at : Pos) (toks : List Token) (s : State) → AreSettled s.table
+    → IfDone (Stays {A = Bool} AreSettled) (opens_in ctx k file at toks s)
+opens_in_settles ctx k file at toks s h =
+    cond_done (Stays {A = Bool} AreSettled) (asks_files ctx.unit.standard k) (gnu_holds ctx file at (drop 2 toks) s) (opens_with k file at toks s)
+    (gnu_settles ctx file at (drop 2 toks) s h) (opens_with_settles k file at toks s h)
+
+opens_settles : (ctx : Context) (file : SourceFile) (k : ℕ) (i : ItemText) (sections : List Section) (s : State) → AreSettled s.table
+    → IfDone (Stays {A = Stepped} AreSettled) (opens ctx file k i sections s)
+opens_settles ctx file k i sections s h =
     cond_done (Stays {A = Stepped} AreSettled) (are_processed sections) _ (only (stepped [] (section i.at Skipped false ∷ sections)) s)
     (noted_done (Stays {A = Stepped} AreSettled) (Reaches file.number k (is_if i.kind) s.before ∷ []) _
-    (onward_done (Stays {A = Bool} AreSettled) (Stays {A = Stepped} AreSettled) (opens_with i.kind file i.at i.toks s) _ (opens_with_settles i.kind file i.at i.toks s h) (λ b t g. g)))
+    (onward_done (Stays {A = Bool} AreSettled) (Stays {A = Stepped} AreSettled) (opens_in ctx i.kind file i.at i.toks s) _ (opens_in_settles ctx i.kind file i.at i.toks s h) (λ b t g. g)))
     h
 
 goes_with_settles : (k : ItemKind) (file : SourceFile) (at : Pos) (toks : List Token) (s : State) → AreSettled s.table
@@ -181,14 +225,20 @@ goes_with_settles kind.Error file at toks s h = holds_stays AreSettled file at (
 goes_with_settles kind.Pragma file at toks s h = holds_stays AreSettled file at (drop 2 toks) s h
 goes_with_settles kind.Empty file at toks s h = holds_stays AreSettled file at (drop 2 toks) s h
 
-goes_on_settles : (file : SourceFile) (k : ℕ) (i : ItemText) (open_ : Section) (sections : List Section) (s : State) (g : Group) → AreSettled s.table
-    → IfDone (Stays {A = Stepped} AreSettled) (goes_on file k i open_ sections s g)
-goes_on_settles file k i open_ sections s Awaited h =
+goes_in_settles : (ctx : Context) (k : ItemKind) (file : SourceFile) (at : Pos) (toks : List Token) (s : State) → AreSettled s.table
+    → IfDone (Stays {A = Bool} AreSettled) (goes_in ctx k file at toks s)
+goes_in_settles ctx k file at toks s h =
+    cond_done (Stays {A = Bool} AreSettled) (asks_files ctx.unit.standard k) (gnu_holds ctx file at (drop 2 toks) s) (goes_with k file at toks s)
+    (gnu_settles ctx file at (drop 2 toks) s h) (goes_with_settles k file at toks s h)
+
+goes_on_settles : (ctx : Context) (file : SourceFile) (k : ℕ) (i : ItemText) (open_ : Section) (sections : List Section) (s : State) (g : Group) → AreSettled s.table
+    → IfDone (Stays {A = Stepped} AreSettled) (goes_on ctx file k i open_ sections s g)
+goes_on_settles ctx file k i open_ sections s Awaited h =
     noted_done (Stays {A = Stepped} AreSettled) (Reaches file.number k true s.before ∷ []) _
-    (onward_done (Stays {A = Bool} AreSettled) (Stays {A = Stepped} AreSettled) (goes_with i.kind file i.at i.toks s) _ (goes_with_settles i.kind file i.at i.toks s h) (λ b t g. g))
-goes_on_settles file k i open_ sections s Skipped h = h
-goes_on_settles file k i open_ sections s Processed h = h
-goes_on_settles file k i open_ sections s Over h = h
+    (onward_done (Stays {A = Bool} AreSettled) (Stays {A = Stepped} AreSettled) (goes_in ctx i.kind file i.at i.toks s) _ (goes_in_settles ctx i.kind file i.at i.toks s h) (λ b t g. g))
+goes_on_settles ctx file k i open_ sections s Skipped h = h
+goes_on_settles ctx file k i open_ sections s Processed h = h
+goes_on_settles ctx file k i open_ sections s Over h = h
 
 alive_settles : (file : SourceFile) (k : ℕ) (g : Group) (s : State) (d : Stepped) → AreSettled s.table
     → IfDone (Stays {A = Stepped} AreSettled) (reaching_alive file k g s (only d s))
@@ -209,9 +259,9 @@ in_section_settles file i Remains (o ∷ around) next h = cond_done (Stays {A = 
 
 turned_settles : (ctx : Context) (inner : Inner) → InnerSettles inner → (file : SourceFile) (k : ℕ) (i : ItemText) (sections : List Section) (s : State) (turn : Turn)
     → AreSettled s.table → IfDone (Stays {A = Stepped} AreSettled) (turned ctx inner file k i sections s turn)
-turned_settles ctx inner p file k i sections s Opens h = opens_settles file k i sections s h
+turned_settles ctx inner p file k i sections s Opens h = opens_settles ctx file k i sections s h
 turned_settles ctx inner p file k i sections s GoesOn h =
-    in_section_settles file i GoesOn sections _ (λ o around. goes_on_settles file k i o around s o.group h)
+    in_section_settles file i GoesOn sections _ (λ o around. goes_on_settles ctx file k i o around s o.group h)
 turned_settles ctx inner p file k i sections s GoesLast h =
     in_section_settles file i GoesLast sections _ (λ o around. alive_settles file k o.group s (go_on o (group_of_else o.group) true around) h)
 turned_settles ctx inner p file k i sections s Ends h =

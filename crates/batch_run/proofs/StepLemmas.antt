@@ -3,6 +3,7 @@ use Rattle.std.proofs.Common.{◌≡◌, ◌++◌, Bool, true, false, ◌||◌, 
 use Rattle.cs_base.specs.declared.positions.Part.{Part}
 use Rattle.cs_base.specs.Edit.{Edit, with_edits, IsKept}
 use Rattle.cs_base.specs.Outside.{FileMap}
+use Rattle.cs_base.proofs.BoolLemmas.{or_false}
 use Rattle.batch_run.specs.Line.{LineValue}
 use Rattle.edited_files.specs.Edited.{AreMade, with_each}
 use Rattle.edited_files.proofs.PutLemmas.{put_each}
@@ -20,10 +21,6 @@ use Rattle.batch_run.specs.Batch.{plan_text}
 use Rattle.batch_run.specs.Keeping.{KeepsLine}
 use Rattle.batch_run.specs.Stepping.{IsOver, IsAnswered, Steps}
 use Rattle.batch_run.proofs.KeepingLemmas.{line_is_kept, analysis_goes_on}
-
-or_false : (b : Bool) → b ≡ (b || false)
-or_false true = refl
-or_false false = refl
 
 or_true : (b : Bool) → true ≡ (b || true)
 or_true true = refl

@@ -33,5 +33,5 @@ pub use dialects::{Dialect, Edition};
 pub use grammar_laws::first_sets_are_the_tables;
 pub use items::{Action, Alternative, Ask, Item, Test};
 pub use spellings::base_class;
-pub use starting::{holds, production_starts, starts};
+pub use starting::{holds, is_among, production_starts, starts};
 pub use table::alternatives;

@@ -170,10 +170,14 @@ pub fn production_starts(
     starts_with(production, class, dialect) || starts_before(production, class, behind, dialect)
 }
 
-fn is_among(class: Class, classes: &[Class]) -> bool
+/// The class is one of these, which are few.
+pub fn is_among(class: Class, classes: &[Class]) -> bool
     ensures { result ≡ among classes.now class }
 {
-    classes.contains(&class)
+    match classes {
+        [] => false,
+        [first, more @ ..] => *first == class || is_among(class, more),
+    }
 }
 
 /// What is asked is true of the class.

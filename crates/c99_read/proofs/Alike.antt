@@ -53,7 +53,7 @@ module _ (g : Grammar) (a b : List Token) (alike : IsAlike g a b) where
   identifier_alike (node l first under rest) found = identifier_alike rest found
 
   -- the second is what the first gives, with the other tokens
-  abbrev Same : Step → Step → Type 0
+  abbrev pub Same : Step → Step → Type 0
   Same (Ok s) r = (s.toks ≡ a) × (r ≡ Ok (swapped b s))
   Same (Err stop) r = r ≡ Err stop
 

@@ -5,11 +5,9 @@ use borrow.Author.Tests.{ltb-false}
 use Rattle.std.proofs.lemmas.Bool.{cases_Bool}
 use Rattle.std.proofs.lemmas.List.Sums.{fails_before_first}
 use Rattle.std.proofs.lemmas.List.Quantifiers.{position-Some}
+use Rattle.cs_base.proofs.OptionLemmas.{None≢Some}
 use Rattle.c99_read.specs.declared.names.Declaration.{Declaration}
 use Rattle.c99_read.specs.State.{Head, given_names}
-
-None≢Some : (x : ℕ) → None ≡ Some x → ⊥
-None≢Some x e = cc
 
 fails_all : (p : Head → Bool) (xs : List Head) (d : Head) → position p xs ≡ None → (k : ℕ) → k < length xs → p (get_or xs k d) ≡ false
 fails_all p xs d none k within =

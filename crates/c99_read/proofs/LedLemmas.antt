@@ -250,3 +250,41 @@ module _ (g : Grammar) (depth : ℕ) (p : Production) (n : ℕ) (below : Product
       by (refusal.Syntax i) h = λ b. behind-it b (Err (syntax i)) h
       by (refusal.TooDeep i) h = λ b. behind-it b (Err (too_deep i)) h
       by refusal.Memory h = h
+
+-- ---- An alternative that is one production
+
+module _ (g : Grammar) (depth : ℕ) (p : Production) (n : ℕ) (below : Production) (collapsing : collapses p ≡ true) (s : State) where
+  abbrev rest : Item
+  rest = maybe (part below)
+
+  can : CanBeLeftOut p rest
+  can = record { collapses = collapsing; optional = refl }
+
+  abbrev begun-fresh : Node
+  begun-fresh = fresh g depth p n below rest can s
+
+  pub alone-left : (s1 new : State) (first : Node) → ReadsNode (Ok first) s s1 (whole g depth (produce below)) → new ≡ record s1 { near = s.near }
+      → ReadsNode (Ok first) s new (alternative g (whole g) depth p n (part below))
+  alone-left s1 new first m e = (
+    ap (λ (x : State). x.built) e ∙ m.0,
+    λ b.
+        ap (λ x. and_then (whole g depth (produce below) x) (λ s'. Ok (closed p (with_built s b) s'))) (opened-fresh g depth p n below rest can s b)
+        ∙ ap (λ r. and_then r (λ s'. Ok (closed p (with_built s b) s'))) (m.1 begun-fresh)
+        ∙ ap Ok (closed-first g depth p n below rest can s s1 first b)
+        ∙ ap (λ x. Ok (with_built x (behind b first))) (sym e),
+  )
+
+  pub alone-stopped : (s1 : State) (e : ReadRefusal) → ReadsNode (Err e) s s1 (whole g depth (produce below))
+      → ReadsNode (Err e) s s1 (alternative g (whole g) depth p n (part below))
+  alone-stopped s1 e m = by e m
+    where
+      at : (b : Node) (r : Step) → whole g depth (produce below) (with_built s begun-fresh) ≡ r
+          → alternative g (whole g) depth p n (part below) (with_built s b) ≡ and_then r (λ s'. Ok (closed p (with_built s b) s'))
+      at b r h =
+          ap (λ x. and_then (whole g depth (produce below) x) (λ s'. Ok (closed p (with_built s b) s'))) (opened-fresh g depth p n below rest can s b)
+          ∙ ap (λ q. and_then q (λ s'. Ok (closed p (with_built s b) s'))) h
+
+      by : (e : ReadRefusal) → ReadsNode (Err e) s s1 (whole g depth (produce below)) → ReadsNode (Err e) s s1 (alternative g (whole g) depth p n (part below))
+      by (refusal.Syntax i) h = λ b. at b (Err (syntax i)) (h begun-fresh)
+      by (refusal.TooDeep i) h = λ b. at b (Err (too_deep i)) (h begun-fresh)
+      by refusal.Memory h = h

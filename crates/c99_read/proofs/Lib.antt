@@ -2,6 +2,8 @@ pub mod Moves
 pub mod Suffices
 pub mod C99Sound
 pub mod Alike
+pub mod Fronts
+pub mod FrontLemmas
 pub mod HeadLemmas
 pub mod AheadLemmas
 pub mod ChildLemmas
@@ -12,3 +14,4 @@ pub mod RowLemmas
 pub mod LedLemmas
 pub mod OperatorLemmas
 pub mod ReadRows
+pub mod ReadLemmas

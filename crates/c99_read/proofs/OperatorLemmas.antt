@@ -1,5 +1,5 @@
 -- Productions of expressions: their rows, and what follows their first operands.
-use Rattle.std.proofs.Common.{ℕ, ◌≡◌, Bool, true, false, if◌then◌else◌, List, [], ◌∷◌, None, Some, Result, Err, refl, sym, ap, subst, ◌∙◌}
+use Rattle.std.proofs.Common.{ℕ, zero, suc, ◌+◌, ◌-◌, ◌<◌, ◌≤◌, ◌≡◌, Bool, true, false, if◌then◌else◌, List, [], ◌∷◌, None, Some, Result, Ok, Err, refl, sym, ap, subst, ◌∙◌, arith}
 use Rattle.std.proofs.lemmas.Bool.{false≢true, and_parts}
 use Rattle.c99_grammar.specs.declared.dialects.Dialect.{Dialect}
 use Rattle.c99_tree.specs.Tree.{Node}
@@ -13,12 +13,12 @@ use Rattle.c99_read.specs.declared.faults.ReadRefusal.{ReadRefusal}
 use Rattle.c99_read.specs.Answer.{ReadsNode, with_built}
 use Rattle.c99_read.specs.Choosing.{Choice, chosen}
 use Rattle.c99_read.specs.Leading.{CanBeLeftOut}
-use Rattle.c99_read.specs.Operators.{is_assign, is_binary, operand_of, rest_of, signs}
+use Rattle.c99_read.specs.Operators.{is_assign, is_binary, is_operand, operand_of, over, rest_of, rungs, signs}
 use Rattle.c99_read.specs.Reading.{produce, may, alternative, whole, syntax}
 use Rattle.c99_read.specs.State.{State, class_at, collapses}
-use Rattle.c99_read.proofs.LedLemmas.{node-chosen, node-none}
+use Rattle.c99_read.proofs.LedLemmas.{node-chosen, node-none, led-left, led-stopped}
 use Rattle.c99_read.proofs.RowLemmas.{IsReady, ready-at, ready-parts}
-use Rattle.c99_read.specs.Levels.{is_ready}
+use Rattle.c99_read.specs.Levels.{is_ready, level_of}
 use Rattle.std.specs.List.{list_all}
 
 abbrev IsRow : Production → Dialect → Type 0
@@ -123,3 +123,120 @@ pub binary-ready : (std : Dialect) (p : Production) → is_binary p ≡ true →
 binary-ready std p e =
     let P : List Alternative → Type 0 = λ rows. list_all (λ a. is_ready p a.body) rows ≡ true in
     ready-parts p (part (operand_of p) · rest_of p std) (and_parts (is_ready p (part (operand_of p) · rest_of p std)) true (subst P (only_row std p e) (ready-at p std))).0
+
+-- the node of the first operand, where no operator follows
+pub over-left : (std : Dialect) (depth : ℕ) (p : Production) (s s1 new : State) (first : Node) → is_binary p ≡ true
+    → may (grammar std) own (part Cast) s ≡ true → ReadsNode (Ok first) s s1 (whole (grammar std) depth (produce (operand_of p)))
+    → may (grammar std) own (rest_of p std) s1 ≡ false → new ≡ record s1 { near = s.near }
+    → ReadsNode (Ok first) s new (whole (grammar std) depth (produce p))
+over-left std depth p s s1 new first e starts m off near =
+    binary-read std depth p (Ok first) s new e starts
+    (led-left (grammar std) depth p 1 (operand_of p) (rest_of p std) (left-out std p e) s s1 new first m off near)
+
+-- .. or where its reading stops
+over-stops : (std : Dialect) (depth : ℕ) (p : Production) (s s1 : State) (x : ReadRefusal) → is_binary p ≡ true
+    → may (grammar std) own (part Cast) s ≡ true → ReadsNode (Err x) s s1 (whole (grammar std) depth (produce (operand_of p)))
+    → ReadsNode (Err x) s s1 (whole (grammar std) depth (produce p))
+over-stops std depth p s s1 x e starts m =
+    binary-read std depth p (Err x) s s1 e starts
+    (led-stopped (grammar std) depth p 1 (operand_of p) (rest_of p std) (left-out std p e) s s1 x m)
+
+-- ---- From the innermost operand out
+
+pub record IsOver (r : Production) : Type 0 where
+  pub binary : is_binary (over r) ≡ true
+  pub operand : operand_of (over r) ≡ r
+  pub level : level_of (over r) ≡ level_of r + 1
+
+is-over : (r : Production) → is_operand r ≡ true → IsOver r
+is-over Cast e = record { binary = refl; operand = refl; level = refl }
+is-over Mul e = record { binary = refl; operand = refl; level = refl }
+is-over Add e = record { binary = refl; operand = refl; level = refl }
+is-over Shift e = record { binary = refl; operand = refl; level = refl }
+is-over Relate e = record { binary = refl; operand = refl; level = refl }
+is-over Equal e = record { binary = refl; operand = refl; level = refl }
+is-over Band e = record { binary = refl; operand = refl; level = refl }
+is-over Bxor e = record { binary = refl; operand = refl; level = refl }
+is-over Bor e = record { binary = refl; operand = refl; level = refl }
+is-over Land e = record { binary = refl; operand = refl; level = refl }
+is-over Lor e = record { binary = refl; operand = refl; level = refl }
+is-over Cond e = record { binary = refl; operand = refl; level = refl }
+is-over Assign e = record { binary = refl; operand = refl; level = refl }
+is-over _ e = absurd (false≢true e)
+
+-- each of so many steps from the one out has an operand, and the last leads to the other
+abbrev pub Under : ℕ → Production → Production → Type 0
+Under zero r p = r ≡ p
+Under (suc n) r p = (is_operand r ≡ true) × Under n (over r) p
+
+pub cast-under : (p : Production) → is_binary p ≡ true → Under (rungs p) Cast p
+cast-under Mul e = (refl, refl)
+cast-under Add e = (refl, (refl, refl))
+cast-under Shift e = (refl, (refl, (refl, refl)))
+cast-under Relate e = (refl, (refl, (refl, (refl, refl))))
+cast-under Equal e = (refl, (refl, (refl, (refl, (refl, refl)))))
+cast-under Band e = (refl, (refl, (refl, (refl, (refl, (refl, refl))))))
+cast-under Bxor e = (refl, (refl, (refl, (refl, (refl, (refl, (refl, refl)))))))
+cast-under Bor e = (refl, (refl, (refl, (refl, (refl, (refl, (refl, (refl, refl))))))))
+cast-under Land e = (refl, (refl, (refl, (refl, (refl, (refl, (refl, (refl, (refl, refl)))))))))
+cast-under Lor e = (refl, (refl, (refl, (refl, (refl, (refl, (refl, (refl, (refl, (refl, refl))))))))))
+cast-under Cond e = (refl, (refl, (refl, (refl, (refl, (refl, (refl, (refl, (refl, (refl, (refl, refl)))))))))))
+cast-under Assign e = (refl, (refl, (refl, (refl, (refl, (refl, (refl, (refl, (refl, (refl, (refl, (refl, refl))))))))))))
+cast-under Expr e = (refl, (refl, (refl, (refl, (refl, (refl, (refl, (refl, (refl, (refl, (refl, (refl, (refl, refl)))))))))))))
+cast-under _ e = absurd (false≢true e)
+
+under-level : (n : ℕ) (r p : Production) → Under n r p → level_of r + n ≡ level_of p
+under-level zero r p under = let e = ap level_of under in omega (arith, e)
+under-level (suc n) r p under =
+    let o = is-over r under.0 in
+    omega (arith, o.level, under-level n (over r) p under.1)
+
+-- the innermost operand stands below
+pub cast-below : (p : Production) → is_binary p ≡ true → 4 < level_of p
+cast-below p e = let h = under-level (rungs p) Cast p (cast-under p e) in omega (arith, h, rungs-some p e)
+  where
+    rungs-some : (p : Production) → is_binary p ≡ true → 0 < rungs p
+    rungs-some Mul e = omega arith
+    rungs-some Add e = omega arith
+    rungs-some Shift e = omega arith
+    rungs-some Relate e = omega arith
+    rungs-some Equal e = omega arith
+    rungs-some Band e = omega arith
+    rungs-some Bxor e = omega arith
+    rungs-some Bor e = omega arith
+    rungs-some Land e = omega arith
+    rungs-some Lor e = omega arith
+    rungs-some Cond e = omega arith
+    rungs-some Assign e = omega arith
+    rungs-some Expr e = omega arith
+    rungs-some _ e = absurd (false≢true e)
+
+-- one step out
+pub record IsNext (n : ℕ) (r p : Production) : Type 0 where
+  pub step : IsOver r
+  pub under : Under (n - 1) (over r) p
+  pub level : level_of (over r) ≤ level_of p
+
+pub under-next : (n : ℕ) (r p : Production) → 0 < n → Under n r p → IsNext n r p
+under-next zero r p some under = absurd (omega arith)
+under-next (suc n) r p some under =
+    let h = under-level n (over r) p under.1 in
+    let e : n ≡ suc n - 1 = omega arith in
+    let U : ℕ → Type 0 = λ k. Under k (over r) p in
+    record { step = is-over r under.0; under = subst U e under.1; level = omega (arith, h) }
+
+-- what stops the reading of an operand stops that of each production over it
+pub under-stops : (std : Dialect) (depth : ℕ) (n : ℕ) (r p : Production) (s s1 : State) (x : ReadRefusal) → Under n r p
+    → may (grammar std) own (part Cast) s ≡ true → ReadsNode (Err x) s s1 (whole (grammar std) depth (produce r))
+    → ReadsNode (Err x) s s1 (whole (grammar std) depth (produce p))
+under-stops std depth zero r p s s1 x under starts m =
+    let P : Production → Type 0 = λ q. ReadsNode (Err x) s s1 (whole (grammar std) depth (produce q)) in
+    subst P under m
+under-stops std depth (suc n) r p s s1 x under starts m =
+    let o = is-over r under.0 in
+    let P : Production → Type 0 = λ q. ReadsNode (Err x) s s1 (whole (grammar std) depth (produce q)) in
+    under-stops std depth n (over r) p s s1 x under.1 starts (over-stops std depth (over r) s s1 x o.binary starts (subst P (sym o.operand) m))
+
+pub under-end : (n : ℕ) (r p : Production) → n ≤ 0 → Under n r p → r ≡ p
+under-end zero r p none under = under
+under-end (suc n) r p none under = absurd (omega arith)

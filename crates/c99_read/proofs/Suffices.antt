@@ -99,7 +99,7 @@ module _ (g : Grammar) (below below' : ℕ → Goal → State → Step)
       step-agree m agree (many t a) depth 63 s (and_from _ _ both.1 met) fits
 
 module _ (g : Grammar) (sound : IsSound g) where
-  within-agree : (fuel fuel' depth : ℕ) (goal : Goal) (s : State) → is_met goal ≡ true
+  pub within-agree : (fuel fuel' depth : ℕ) (goal : Goal) (s : State) → is_met goal ≡ true
       → measure s (goal_order goal) < fuel → measure s (goal_order goal) < fuel' → read_within g fuel depth goal s ≡ read_within g fuel' depth goal s
   unfolding read_within
   within-agree zero fuel' depth goal s met few few' = absurd (omega arith)

@@ -2,8 +2,11 @@
 pub mod State
 pub mod Reading
 pub mod Alike
+pub mod Fronts
 -- What inner functions promise each other.
 pub mod Again
+pub mod FileScope
+pub mod Standing
 pub mod Children
 pub mod Kept
 pub mod OpenNode
@@ -11,6 +14,7 @@ pub mod Choosing
 pub mod Sound
 pub mod Levels
 pub mod Leading
+pub mod Leads
 pub mod Operators
 pub mod Answer
 -- Words of the crates below, passed on.

@@ -1,5 +1,5 @@
 -- The productions of expressions that are an operand and what an operator joins to it (ISO/IEC 9899:1999, 6.5.5 to 6.5.17).
-use Rattle.std.specs.Prelude.{Bool, true, false, List, [], ◌∷◌}
+use Rattle.std.specs.Prelude.{ℕ, Bool, true, false, List, [], ◌∷◌}
 use Rattle.c99_grammar.specs.declared.dialects.Dialect.{Dialect}
 use Rattle.c99_grammar.specs.declared.dialects.Dialect.TheVariants.{Iso, Gnu}
 use Rattle.c99_tree.specs.declared.production.Production.{Production}
@@ -39,6 +39,56 @@ operand_of Relate = Shift
 operand_of Shift = Add
 operand_of Add = Mul
 operand_of _ = Cast
+
+-- the production whose first operand it is
+abbrev pub over : Production → Production
+over Cast = Mul
+over Mul = Add
+over Add = Shift
+over Shift = Relate
+over Relate = Equal
+over Equal = Band
+over Band = Bxor
+over Bxor = Bor
+over Bor = Land
+over Land = Lor
+over Lor = Cond
+over Cond = Assign
+over _ = Expr
+
+-- how many stand over `Cast`, up to this one
+abbrev pub rungs : Production → ℕ
+rungs Expr = 13
+rungs Assign = 12
+rungs Cond = 11
+rungs Lor = 10
+rungs Land = 9
+rungs Bor = 8
+rungs Bxor = 7
+rungs Band = 6
+rungs Equal = 5
+rungs Relate = 4
+rungs Shift = 3
+rungs Add = 2
+rungs Mul = 1
+rungs _ = 0
+
+-- it is the first operand of one
+abbrev pub is_operand : Production → Bool
+is_operand Cast = true
+is_operand Mul = true
+is_operand Add = true
+is_operand Shift = true
+is_operand Relate = true
+is_operand Equal = true
+is_operand Band = true
+is_operand Bxor = true
+is_operand Bor = true
+is_operand Land = true
+is_operand Lor = true
+is_operand Cond = true
+is_operand Assign = true
+is_operand _ = false
 
 -- the operators, but those of an assignment
 abbrev pub signs : Production → List Class

@@ -8,6 +8,7 @@
 //! members, labels and what is declared twice belong to the crates above. A few procedures read any item of
 //! the table; nesting is bounded, so a text of any length needs little stack. The first operand of an expression is
 //! read before the nodes over it are opened, since most of these have no operator and are left out of the tree.
+//! A `Front` keeps what was read of the beginning of a text; `read_from` goes on from there in another text that begins so.
 //! Trees, classes and names want memory. Read `specs/Grammar.antt` of `c99_grammar` beside the standard's annex,
 //! `specs/Reading.antt`, `specs/State.antt`, then `reading.rt` and `reader.rt`.
 #![tactic(auto)]
@@ -21,8 +22,11 @@ ghost use Rattle.c99_grammar.specs.Standard.{grammar};
 mod ahead;
 mod chosen;
 mod faults;
+mod file_names;
+mod front;
 mod identifiers;
 mod laws;
+mod leads;
 mod names;
 mod open_node;
 mod operators;
@@ -34,6 +38,7 @@ pub use c99_grammar::{Dialect, Edition, first_sets_are_the_tables};
 use c99_tree::{Production, Tree};
 use cs_base::Tok;
 pub use faults::ReadRefusal;
+pub use front::{Front, read_from};
 pub use laws::alike_tokens_read_alike;
 use reader::Reader;
 use std::alloc::Global;

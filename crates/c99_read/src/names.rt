@@ -1,7 +1,8 @@
 // The names of the open scopes, and what open declarators were given (6.2.1).
-ghost use Rattle.std.specs.Prelude.{◌≡◌, ◌==◌, ◌<◌, [], ◌∷◌, length, get_or, position, reverse, Some, unwrap_or, OnOk};
+ghost use Rattle.std.specs.Prelude.{◌≡◌, ◌==◌, ◌<◌, [], ◌∷◌, length, get_or, position, reverse, Some, unwrap_or, IfSome, OnOk};
 ghost use Rattle.c99_read.specs.State.{Head, in_innermost, with_scope_ended, with_head, head_closed, given_names, no_names, declaration};
 
+use crate::file_names::FileNames;
 use cs_base::Memory;
 use std::alloc::Global;
 use std::marker::Model;
@@ -210,5 +211,37 @@ impl NameTable {
         ensures { result ≡ get_or (reverse self.now.kept) k result }
     {
         self.kept[k]
+    }
+
+    /// The names, where the outermost scope alone is open and no declarator is.
+    pub(crate) fn into_file(self) -> Option<FileNames>
+        ensures { IfSome result (λ f. f ≡ self) }
+    {
+        if !self.outer.is_empty() || !self.heads.is_empty() {
+            return None;
+        }
+        let NameTable {
+            inner,
+            ended,
+            kept,
+            ..
+        } = self;
+        Some(FileNames {
+            open: inner,
+            ended,
+            kept,
+        })
+    }
+
+    /// The scope that ended last and the declarator read last had the names that these had.
+    pub(crate) fn recall(&mut self, alloc: Global, names: &FileNames) -> Result<(), Memory>
+        ensures ok { OnOk result (self.new ≡ record self.old { ended = names.now.ended; kept = names.now.kept }) }
+        ensures scopes { self.new.scopes ≡ self.old.scopes }
+    {
+        let ended = Vec::from_slice(alloc, names.ended.as_slice())?;
+        let kept = Vec::from_slice(alloc, names.kept.as_slice())?;
+        self.ended = ended;
+        self.kept = kept;
+        Ok(())
     }
 }

@@ -2,7 +2,7 @@
 ghost use Rattle.std.specs.Prelude.{◌≡◌, true};
 ghost use Rattle.c99_grammar.specs.Classes.{among};
 ghost use Rattle.c99_grammar.specs.ItemsOf.{item_of};
-ghost use Rattle.c99_read.specs.Operators.{is_assign, is_binary, operand_of, rest_of, signs};
+ghost use Rattle.c99_read.specs.Operators.{is_assign, is_binary, over, rest_of, rungs, signs};
 ghost use Rattle.c99_tree.specs.declared.production.Production.TheVariants.{Expr, Cond, Lor, Land, Bor, Bxor, Band, Equal, Relate, Shift, Add, Mul};
 
 use c99_grammar::{Class, Dialect, Item, alternatives};
@@ -29,24 +29,46 @@ pub(crate) fn is_binary(production: Production) -> bool
     )
 }
 
-/// What the first operand is.
-pub(crate) fn operand_of(production: Production) -> Production
-    ensures { result ≡ operand_of production }
+/// The production whose first operand this is.
+pub(crate) fn over(production: Production) -> Production
+    ensures { result ≡ over production }
 {
     match production {
-        Production::Expr => Production::Assign,
-        Production::Assign => Production::Cond,
-        Production::Cond => Production::Lor,
-        Production::Lor => Production::Land,
-        Production::Land => Production::Bor,
-        Production::Bor => Production::Bxor,
-        Production::Bxor => Production::Band,
-        Production::Band => Production::Equal,
-        Production::Equal => Production::Relate,
-        Production::Relate => Production::Shift,
-        Production::Shift => Production::Add,
-        Production::Add => Production::Mul,
-        _ => Production::Cast,
+        Production::Cast => Production::Mul,
+        Production::Mul => Production::Add,
+        Production::Add => Production::Shift,
+        Production::Shift => Production::Relate,
+        Production::Relate => Production::Equal,
+        Production::Equal => Production::Band,
+        Production::Band => Production::Bxor,
+        Production::Bxor => Production::Bor,
+        Production::Bor => Production::Land,
+        Production::Land => Production::Lor,
+        Production::Lor => Production::Cond,
+        Production::Cond => Production::Assign,
+        _ => Production::Expr,
+    }
+}
+
+/// How many productions stand over the innermost operand, up to this one.
+pub(crate) fn rungs(production: Production) -> u32
+    ensures { result ≡ rungs production }
+{
+    match production {
+        Production::Expr => 13,
+        Production::Assign => 12,
+        Production::Cond => 11,
+        Production::Lor => 10,
+        Production::Land => 9,
+        Production::Bor => 8,
+        Production::Bxor => 7,
+        Production::Band => 6,
+        Production::Equal => 5,
+        Production::Relate => 4,
+        Production::Shift => 3,
+        Production::Add => 2,
+        Production::Mul => 1,
+        _ => 0,
     }
 }
 

@@ -1,9 +1,9 @@
 // How far a text has been read, and the steps that move on in it.
-ghost use Rattle.std.specs.Prelude.{◌≡◌, ◌<◌, ◌+◌, ◌^◌, length, map, IfOk, [], ◌∷◌, Some, None, Err, Ok, OnOk, OnErr, IsErr};
+ghost use Rattle.std.specs.Prelude.{◌≡◌, ◌<◌, ◌≤◌, ◌+◌, ◌^◌, length, map, IfOk, IfErr, IfSome, [], ◌∷◌, Some, None, Err, Ok, OnOk, OnErr, IsErr};
 ghost use Rattle.c99_tree.specs.Names.{outermost};
 ghost use Rattle.c99_tree.specs.Tree.{collapsed};
 ghost use Rattle.c99_read.specs.Answer.{Reads, Opens, Wraps, Closes, Starts, with_built, behind};
-ghost use Rattle.c99_read.specs.declared.faults.ReadRefusal.TheVariants.{Syntax};
+ghost use Rattle.c99_read.specs.declared.faults.ReadRefusal.TheVariants.{Syntax, Memory as NoMemory};
 ghost use Rattle.c99_grammar.specs.Classes.{among};
 ghost use Rattle.c99_grammar.specs.Items.{scope, end, declare, name, keep, again};
 ghost use Rattle.c99_read.specs.Reading.{take_one, at_end, enter, syntax};
@@ -11,14 +11,16 @@ ghost use Rattle.c99_read.specs.State.{class_at, acted, is_declarator, is_specs,
 ghost use Rattle.c99_grammar.specs.TokenClasses.{base_class};
 ghost use Rattle.c99_grammar.specs.Standard.{grammar};
 ghost use Rattle.c99_read.specs.Kept.{Reading};
+ghost use Rattle.c99_read.specs.Standing.{IsStand};
 
 use crate::ahead::{Ahead, look_ahead, moved_on, spelling};
 use crate::faults::ReadRefusal;
+use crate::file_names::FileNames;
 use crate::identifiers::last_identifier;
 use crate::names::NameTable;
 use crate::open_node::OpenNode;
 use crate::parts::collapses;
-use c99_grammar::{Class, Dialect, base_class};
+use c99_grammar::{Class, Dialect, base_class, is_among};
 use c99_tree::{Label, Production, Tree, Visible};
 use cs_base::{Memory, Tok};
 use std::alloc::{AllocError, Global};
@@ -73,6 +75,15 @@ pub(crate) struct Begun {
     near: bool,
 }
 
+/// Where a reader stands between two external declarations: at which token, with which names, and the node around the unit
+/// as far as it is built.
+#[derive(Drop)]
+pub(crate) struct Stand {
+    pub(crate) at: usize,
+    pub(crate) names: FileNames,
+    pub(crate) tree: Tree,
+}
+
 /// How deep constructs may nest.
 const DEEPEST: usize = 256;
 
@@ -121,6 +132,74 @@ impl<'a> Reader<'a> {
         self.built.collapsed()
     }
 
+    /// The node around the unit.
+    pub(crate) fn into_unit(self) -> Result<Tree, Memory>
+        ensures { IfOk result (λ tree. tree ≡ self.entry.state.built) }
+    {
+        self.built.into_tree()
+    }
+
+    /// Which token is next.
+    pub(crate) fn at(&self) -> usize
+        ensures answer { result ≡ self.now.state.at }
+        ensures within { self.now.state.at ≤ length self.now.state.toks }
+    {
+        self.at
+    }
+
+    /// Where the reader stands, if that is between two external declarations and it has seen the next two tokens.
+    pub(crate) fn into_stand(self) -> Result<Option<Stand>, Memory>
+        ensures { IfOk result (λ o. IfSome o (λ stand. IsStand stand self.entry.state)) }
+    {
+        let Reader {
+            toks,
+            at,
+            names,
+            near,
+            built,
+            ..
+        } = self;
+        if near || toks.len() < 2 || at >= toks.len() - 1 {
+            return Ok(None);
+        }
+        let tree = built.into_tree()?;
+        if tree.label() != UNIT || tree.first() != 0 {
+            return Ok(None);
+        }
+        match names.into_file() {
+            Some(names) => Ok(Some(Stand { at, names, tree })),
+            None => Ok(None),
+        }
+    }
+
+    /// Before the first token, the reader goes on at this one, with these names.
+    pub(crate) fn resume(&mut self, names: &FileNames, at: usize, dialect: Dialect) -> Read
+        requires by { self.old.dialect ≡ dialect }
+        requires first { self.old.state.names ≡ no_names }
+        requires within { at ≤ length self.old.state.toks }
+        ensures by { self.new.dialect ≡ dialect }
+        ensures answer { OnOk result (self.new.state ≡ record self.old.state { at = at; names = names.now }) }
+        ensures memory { IfErr result (λ e. e ≡ NoMemory) }
+    {
+        let outcome = recall(
+            self.toks,
+            &mut self.names,
+            &mut self.visible,
+            self.alloc,
+            names,
+        );
+        self.at = at;
+        self.ahead = look_ahead(
+            dialect,
+            self.toks,
+            self.classes.as_slice(),
+            &self.visible,
+            self.at,
+        );
+        outcome?;
+        Ok(())
+    }
+
     /// The class of the next token.
     pub(crate) fn class_here(&self, dialect: Dialect) -> Class
         requires by { self.now.dialect ≡ dialect }
@@ -142,7 +221,7 @@ impl<'a> Reader<'a> {
         requires by { self.now.dialect ≡ dialect }
         ensures { result ≡ among classes.now (class_at (grammar dialect) self.now.state self.now.state.at) }
     {
-        classes.contains(&self.class_here(dialect))
+        is_among(self.class_here(dialect), classes)
     }
 
     /// The token behind the next one is of one of the classes.
@@ -150,7 +229,7 @@ impl<'a> Reader<'a> {
         requires by { self.now.dialect ≡ dialect }
         ensures { result ≡ among classes.now (class_at (grammar dialect) self.now.state (self.now.state.at + 1)) }
     {
-        classes.contains(&self.class_behind(dialect))
+        is_among(self.class_behind(dialect), classes)
     }
 
     /// Nothing that may follow starts here.
@@ -576,6 +655,27 @@ fn declare(
         Ok(()) => Ok(()),
         Err(_) => forget(names, visible, alloc),
     }
+}
+
+// The names of file scope are declared one after another, and the others are recalled.
+fn recall(
+    toks: &[Tok],
+    names: &mut NameTable,
+    visible: &mut Visible,
+    alloc: Global,
+    kept: &FileNames,
+) -> Result<(), Memory>
+    requires first { names.old ≡ no_names }
+    requires visible_of { visible.old ≡ spelled_scopes toks.now names.old.scopes }
+    ensures ok { OnOk result (names.new ≡ kept.now) }
+    ensures visible_of { visible.new ≡ spelled_scopes toks.now names.new.scopes }
+{
+    let count = kept.len();
+    'names: for k in 0..count {
+        let d = kept.at(k);
+        declare(toks, names, visible, alloc, d.name_at, d.typedef)?;
+    }
+    names.recall(alloc, kept)
 }
 
 // Where memory ran out no name is known any more, and the two tables still say the same.

@@ -1,24 +1,29 @@
 // Reading by the table: a production, the items of an alternative, and repetitions.
-ghost use Rattle.std.specs.Prelude.{◌≡◌, ◌≤◌, ◌<◌, ◌+◌, true, Ok};
+ghost use Rattle.std.specs.Prelude.{ℕ, ◌≡◌, ◌≤◌, ◌<◌, ◌+◌, true, Ok, IfOk, OnOk};
 ghost use Rattle.std.specs.Option.{option_map};
 ghost use Rattle.c99_read.specs.Answer.{IsBegun, Reads, ReadsNode};
 ghost use Rattle.c99_grammar.specs.Items.{choice, deep, many, maybe, own, part, ◌·◌};
 ghost use Rattle.c99_grammar.specs.ItemsOf.{action_of, item_of, test_of};
 ghost use Rattle.c99_read.specs.Choosing.{choice_of, chosen};
+ghost use Rattle.c99_read.specs.Leading.{CanBeLeftOut};
 ghost use Rattle.c99_read.specs.Levels.{height, level_of, size, Met};
 ghost use Rattle.c99_read.specs.Operators.{is_binary, operand_of, rest_of};
 ghost use Rattle.c99_read.specs.Reading.{may, step, alternative, whole, produce, repeat};
 ghost use Rattle.c99_read.specs.Sound.{is_met};
 ghost use Rattle.c99_grammar.specs.Standard.{grammar};
-ghost use Rattle.c99_read.specs.State.{State, acted};
-ghost use Rattle.c99_tree.specs.declared.production.Production.TheVariants.{Cast};
+ghost use Rattle.c99_read.specs.State.{State, acted, collapses};
+ghost use Rattle.c99_read.specs.Fronts.{external, externals, behind_children, IsSameNode};
+ghost use Rattle.c99_tree.specs.Tree.{Forest};
+ghost use Rattle.c99_tree.specs.declared.production.Production.TheVariants.{Cast, External};
 
 use crate::chosen::Chosen;
 use crate::faults::ReadRefusal;
-use crate::operators::{is_assign, is_binary, is_sign, operand_of, rest_of};
+use crate::leads::{Lead, lead_of};
+use crate::operators::{is_assign, is_binary, is_sign, over, rest_of, rungs};
 use crate::reader::{Begun, Read, Reader};
 use c99_grammar::{Action, Dialect, Item, Test, alternatives, holds, production_starts, starts};
 use c99_tree::{Production, Tree};
+use cs_base::Memory;
 
 impl<'a> Reader<'a> {
     #[cycle(reading)]
@@ -54,13 +59,16 @@ impl<'a> Reader<'a> {
             return self.no_node();
         }
         match self.chosen(production, dialect) {
-            Some(chosen) => self.opened(depth, production, chosen.number, chosen.body, dialect),
+            Some(chosen) => {
+                self.alternative(depth, production, chosen.number, chosen.body, dialect)
+            }
             None => self.no_node(),
         }
     }
 
     #[cycle(reading)]
-    // The node of an operand and of what operators join to it. Most have no operator, and are their operand.
+    // The node of an operand and of what operators join to it: the innermost operand is read, and then each production
+    // over it, from the innermost out. Most have no operator, and are their operand. All of them have one frame.
     fn binary(
         &mut self,
         depth: usize,
@@ -75,40 +83,20 @@ impl<'a> Reader<'a> {
         ensures answer { ReadsNode result self.old.state self.new.state (whole (grammar dialect) depth (produce production)) }
     {
         let begun = self.begun();
-        let first = self.operand(depth, operand_of(production), dialect)?;
-        if self.goes_on(production, dialect) {
-            self.joined(depth, production, begun, first, dialect)
-        } else {
-            self.end(begun, dialect);
-            Ok(first)
+        let mut node = self.node(depth, Production::Cast, dialect)?;
+        let mut read = Production::Cast;
+        let mut left = rungs(production);
+        'rungs: while left > 0 {
+            read = over(read);
+            node = self.over_first(depth, read, begun, node, dialect)?;
+            left -= 1;
         }
+        Ok(node)
     }
 
     #[cycle(reading)]
-    // An operand of a binary production.
-    fn operand(
-        &mut self,
-        depth: usize,
-        production: Production,
-        dialect: Dialect,
-    ) -> Result<Tree, ReadRefusal>
-        requires by { self.old.dialect ≡ dialect }
-        requires deep { depth ≤ 256 }
-        requires starts { may (grammar dialect) own (part Cast) self.old.state ≡ true }
-        ensures by { self.new.dialect ≡ dialect }
-        ensures answer { ReadsNode result self.old.state self.new.state (whole (grammar dialect) depth (produce production)) }
-    {
-        if is_binary(production) {
-            self.binary(depth, production, dialect)
-        } else {
-            self.node(depth, production, dialect)
-        }
-    }
-
-    #[cycle(reading)]
-    #[inline(never)]
-    // A node is opened for the operand that was read first, and what follows is read.
-    fn joined(
+    // The node of a production whose first operand was read: that operand, where no operator follows.
+    fn over_first(
         &mut self,
         depth: usize,
         production: Production,
@@ -120,12 +108,45 @@ impl<'a> Reader<'a> {
         requires deep { depth ≤ 256 }
         requires binary { is_binary production ≡ true }
         ensures by { self.new.dialect ≡ dialect }
-        ensures answer { (s : State) → IsBegun begun s
+        ensures answer { (s : State) → IsBegun begun s → may (grammar dialect) own (part Cast) s ≡ true
             → ReadsNode (Ok first) s self.old.state (whole (grammar dialect) depth (produce (operand_of production)))
-            → ReadsNode result s self.new.state (alternative (grammar dialect) (whole (grammar dialect)) depth production 1 (part (operand_of production) · rest_of production dialect)) }
+            → ReadsNode result s self.new.state (whole (grammar dialect) depth (produce production)) }
     {
-        let outer = self.wrap(production, 1, begun, first, dialect)?;
-        self.item(depth, rest_of(production, dialect), dialect)?;
+        if self.goes_on(production, dialect) {
+            let rest = rest_of(production, dialect);
+            self.joined(depth, production, 1, begun, first, rest, dialect)
+        } else {
+            self.end(begun, dialect);
+            Ok(first)
+        }
+    }
+
+    #[cycle(reading)]
+    #[inline(never)]
+    // A node is opened for the child that was read first, and what follows is read.
+    fn joined(
+        &mut self,
+        depth: usize,
+        production: Production,
+        number: u8,
+        begun: Begun,
+        first: Tree,
+        rest: &Item,
+        dialect: Dialect,
+    ) -> Result<Tree, ReadRefusal>
+        requires by { self.old.dialect ≡ dialect }
+        requires deep { depth ≤ 256 }
+        requires optional { CanBeLeftOut production (item_of rest.now) }
+        requires low { height (item_of rest.now) ≤ level_of production }
+        requires short { size (item_of rest.now) < 100 }
+        requires met { Met (item_of rest.now) }
+        ensures by { self.new.dialect ≡ dialect }
+        ensures answer { (s : State) (below : Production) → IsBegun begun s
+            → ReadsNode (Ok first) s self.old.state (whole (grammar dialect) depth (produce below))
+            → ReadsNode result s self.new.state (alternative (grammar dialect) (whole (grammar dialect)) depth production number (part below · item_of rest.now)) }
+    {
+        let outer = self.wrap(production, number, begun, first, dialect)?;
+        self.item(depth, rest, dialect)?;
         self.close(outer, production, dialect)
     }
 
@@ -199,6 +220,82 @@ impl<'a> Reader<'a> {
             self.class_behind(dialect),
             dialect,
         )
+    }
+
+    #[cycle(reading)]
+    // The node of an alternative. Where its node may be left out, the first child is read before it is opened.
+    fn alternative(
+        &mut self,
+        depth: usize,
+        production: Production,
+        number: u8,
+        body: &'static Item,
+        dialect: Dialect,
+    ) -> Result<Tree, ReadRefusal>
+        requires by { self.old.dialect ≡ dialect }
+        requires deep { depth ≤ 256 }
+        requires low { height (item_of body.now) ≤ level_of production }
+        requires short { size (item_of body.now) < 100 }
+        requires met { Met (item_of body.now) }
+        ensures by { self.new.dialect ≡ dialect }
+        ensures answer { ReadsNode result self.old.state self.new.state (alternative (grammar dialect) (whole (grammar dialect)) depth production number (item_of body.now)) }
+    {
+        match lead_of(production, body) {
+            Lead::Alone(first) => self.alone(depth, first, dialect),
+            Lead::Before(first, rest) => self.led(depth, production, number, first, rest, dialect),
+            Lead::Otherwise => self.opened(depth, production, number, body, dialect),
+        }
+    }
+
+    #[cycle(reading)]
+    // The node of an alternative that is one production, where it is left out.
+    fn alone(
+        &mut self,
+        depth: usize,
+        first: Production,
+        dialect: Dialect,
+    ) -> Result<Tree, ReadRefusal>
+        requires by { self.old.dialect ≡ dialect }
+        requires deep { depth ≤ 256 }
+        ensures by { self.new.dialect ≡ dialect }
+        ensures answer { (p : Production) (n : ℕ) → collapses p ≡ true
+            → ReadsNode result self.old.state self.new.state (alternative (grammar dialect) (whole (grammar dialect)) depth p n (part first)) }
+    {
+        let begun = self.begun();
+        let node = self.node(depth, first, dialect)?;
+        self.end(begun, dialect);
+        Ok(node)
+    }
+
+    #[cycle(reading)]
+    // The node of an alternative that begins with a production and may end there.
+    fn led(
+        &mut self,
+        depth: usize,
+        production: Production,
+        number: u8,
+        first: Production,
+        rest: &'static Item,
+        dialect: Dialect,
+    ) -> Result<Tree, ReadRefusal>
+        requires by { self.old.dialect ≡ dialect }
+        requires deep { depth ≤ 256 }
+        requires optional { CanBeLeftOut production (item_of rest.now) }
+        requires first { level_of first < level_of production }
+        requires low { height (item_of rest.now) ≤ level_of production }
+        requires short { size (item_of rest.now) < 100 }
+        requires met { Met (item_of rest.now) }
+        ensures by { self.new.dialect ≡ dialect }
+        ensures answer { ReadsNode result self.old.state self.new.state (alternative (grammar dialect) (whole (grammar dialect)) depth production number (part first · item_of rest.now)) }
+    {
+        let begun = self.begun();
+        let node = self.node(depth, first, dialect)?;
+        if self.starts_here(rest, dialect) {
+            self.joined(depth, production, number, begun, node, rest, dialect)
+        } else {
+            self.end(begun, dialect);
+            Ok(node)
+        }
     }
 
     #[cycle(reading)]
@@ -326,5 +423,54 @@ impl<'a> Reader<'a> {
             Action::Keep => self.keep(dialect),
             Action::Again => self.again(dialect),
         }
+    }
+
+    /// An external declaration, if one starts here.
+    fn external(&mut self, dialect: Dialect) -> Read
+        requires by { self.old.dialect ≡ dialect }
+        ensures by { self.new.dialect ≡ dialect }
+        ensures answer { Reads result self.new.state (external (grammar dialect) self.old.state) }
+    {
+        if !self.begins(Production::External, dialect) {
+            return self.syntax();
+        }
+        self.produce(0, Production::External, dialect)
+    }
+
+    /// External declarations up to this token or one behind it, and how many these are.
+    pub(crate) fn externals_to(&mut self, end: usize, dialect: Dialect) -> Result<u32, ReadRefusal>
+        requires by { self.old.dialect ≡ dialect }
+        ensures answer { IfOk result (λ k. externals (grammar dialect) k self.old.state ≡ Ok self.new.state) }
+    {
+        let mut count = 0;
+        'turns: while self.at() < end {
+            self.external(dialect)?;
+            count = next_count(count)?;
+        }
+        Ok(count)
+    }
+
+    /// External declarations as long as one starts. What they become does not depend on the children that the open node has.
+    pub(crate) fn externals(&mut self, dialect: Dialect) -> Read
+        requires by { self.old.dialect ≡ dialect }
+        ensures by { self.new.dialect ≡ dialect }
+        ensures answer { (f : Forest) → Reads result (behind_children f self.new.state)
+            (step (grammar dialect) (whole (grammar dialect)) 0 (many own (part External)) (behind_children f self.old.state)) }
+        ensures unit { OnOk result (IsSameNode self.old.state.built self.new.state.built) }
+    {
+        'turns: while self.begins(Production::External, dialect) {
+            let node = self.node(0, Production::External, dialect)?;
+            self.push(node, dialect)?;
+        }
+        Ok(())
+    }
+}
+
+fn next_count(count: u32) -> Result<u32, Memory>
+    ensures { IfOk result (λ n. n ≡ count + 1) }
+{
+    match count.checked_add(1) {
+        Some(next) => Ok(next),
+        None => Err(Memory),
     }
 }

@@ -1,3 +1,4 @@
 pub mod TreeLemmas
 pub mod NameLemmas
 pub mod MarkLemmas
+pub mod ProductionLemmas

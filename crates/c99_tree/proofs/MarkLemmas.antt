@@ -4,12 +4,13 @@ use Rattle.std.specs.Str.{bytes_eq}
 use Rattle.std.proofs.lemmas.Bool.{false_from_ne_true}
 use Rattle.std.proofs.lemmas.Bool.Decides.{eqb_tells}
 use Rattle.std.proofs.lemmas.List.{get_or-set_same, get_or-set_other}
+use Rattle.cs_base.proofs.FileMapLemmas.{bytes_eq-equal as same_spelling}
+use Rattle.cs_base.proofs.ListLemmas.{spelled_same}
 use Rattle.c99_tree.specs.NumberedNames.{Marks, marks_of, nth, IsNumberOf}
 use Rattle.c99_tree.specs.Names.{Declared, Scopes, declared, ended, latest, is_typedef}
 use Rattle.c99_tree.specs.Marks.{scopes_of, mark_of, open_in, IsUndone, IsKept}
 use Rattle.c99_tree.specs.declared.visible.Step.{Step}
 use Rattle.c99_tree.specs.declared.visible.Step.TheVariants as step
-use Rattle.c99_tree.proofs.NameLemmas.{same_spelling, spelled_same}
 
 -- ---- looking a name up
 

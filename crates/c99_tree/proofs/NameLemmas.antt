@@ -1,29 +1,21 @@
 -- Names with numbers: what a look-up and a new name give.
-use Rattle.std.proofs.Common.{ℕ, zero, suc, ◌<◌, ◌≤◌, ◌≡◌, Bool, true, false, not, List, [], ◌∷◌, ◌++◌, length, get_or, map, None, Some, position, refl, sym, ap, ◌∙◌, arith, length-append, nat_lt, true≢false, ◌⊎◌, inl, inr}
+use Rattle.std.proofs.Common.{ℕ, zero, suc, ◌<◌, ◌≤◌, ◌≡◌, Bool, false, not, List, [], ◌∷◌, ◌++◌, length, get_or, map, None, Some, position, refl, sym, ap, ◌∙◌, arith, length-append, nat_lt, true≢false, ◌⊎◌, inl, inr}
 use Rattle.std.specs.List.{prefix_len, position_or_len, list_any}
 use borrow.Author.Tests.{ltb-true, ltb-false}
 use Rattle.std.specs.Str.{bytes_eq}
 use Rattle.std.proofs.lemmas.Bool.{cases_Bool}
 use Rattle.std.proofs.lemmas.List.Sums.{fails_before_first}
 use Rattle.std.proofs.lemmas.List.Quantifiers.{position-Some}
-use Rattle.std.proofs.lemmas.Slice.Eq.{bytes_eq-Decides}
 use Rattle.std.proofs.Math.ListN.{get_or-append, length-map}
 use Rattle.std.proofs.lemmas.List.{map-append}
 use Rattle.std.proofs.Math.Seq.{get_or-append_seam}
+use Rattle.cs_base.proofs.OptionLemmas.{None≢Some}
+use Rattle.cs_base.proofs.FileMapLemmas.{bytes_eq-equal as same_spelling}
+use Rattle.cs_base.proofs.ListLemmas.{spelled_same}
 use Rattle.c99_tree.specs.NumberedNames.{Marks, marks_of, nth, IsNumbered, IsNumberOf}
-
-None≢Some : (x : ℕ) → None ≡ Some x → ⊥
-None≢Some x e = cc
 
 below_or : (i n : ℕ) → (i < n) ⊎ (n ≤ i)
 below_or i n = elim (cases_Bool (nat_lt i n)) [ inl below ↦ inl (ltb-true _ _ below) | inr past ↦ inr (ltb-false _ _ past) ]
-
--- equal spellings are equal as lists, and only those
-pub same_spelling : (a b : List ℕ) → bytes_eq a b ≡ true → a ≡ b
-same_spelling a b h = (bytes_eq-Decides a b).0 h
-
-pub spelled_same : (a b : List ℕ) → a ≡ b → bytes_eq a b ≡ true
-spelled_same a b h = (bytes_eq-Decides a b).1 h
 
 module _ {K : Type 0} (spelling : K → List ℕ) (p : List ℕ → Bool) where
   prefix_len-map : (ks : List K) → prefix_len (λ k. p (spelling k)) ks ≡ prefix_len p (map spelling ks)

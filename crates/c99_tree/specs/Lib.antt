@@ -1,6 +1,7 @@
 -- What the public contracts rest on.
 pub mod Tree
 pub mod Names
+pub mod Joined
 -- What contracts see of private fields, and how trees and tables are kept.
 pub mod TreeCode
 pub mod Children

@@ -19,6 +19,8 @@ mod entity_rows;
 #[cfg(test)]
 mod fault_rows;
 #[cfg(test)]
+mod front_tests;
+#[cfg(test)]
 mod gnu_entity_rows;
 #[cfg(test)]
 mod gnu_tests;

@@ -1,4 +1,6 @@
 pub mod ChildWalks
 pub mod ShapeLemmas
-mod FrontLemmas
+pub mod FrontLemmas
 pub mod ParameterLemmas
+pub mod TokenLemmas
+pub mod JoinedLemmas

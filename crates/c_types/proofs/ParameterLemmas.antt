@@ -33,7 +33,7 @@ either : (name : ℕ) (b : Bool) (u v : ParameterList) → u.name ≡ name → v
 either name true u v p q = p
 either name false u v p q = q
 
-of-name : (name : ℕ) (f : Forest) → (parameters_of name f).name ≡ name
+pub of-name : (name : ℕ) (f : Forest) → (parameters_of name f).name ≡ name
 of-name name none = refl
 of-name name (token i rest) = of-name name rest
 of-name name (node l first under rest) = either name (is_at l Params 1) (untyped name under) (typed name under) refl refl

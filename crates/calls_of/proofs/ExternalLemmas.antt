@@ -1,24 +1,25 @@
 -- The table of the first tokens of external names: one token more, one unit more.
-use Rattle.std.proofs.Common.{ℕ, ◌+◌, ◌-◌, ◌<◌, ◌≤◌, ◌≡◌, Bool, ◌&&◌, cond, List, [], ◌∷◌, ◌++◌, length, min, get_or, drop, filter, Option, None, Some, slice_get, refl, sym, ap, subst, ◌∙◌, inl, inr, if◌then◌else◌, arith}
+use Rattle.std.proofs.Common.{ℕ, ◌+◌, ◌<◌, ◌≤◌, ◌≡◌, Bool, ◌&&◌, cond, List, [], ◌∷◌, ◌++◌, length, min, get_or, drop, filter, Option, None, Some, slice_get, refl, sym, ap, subst, ◌∙◌, inl, inr, if◌then◌else◌, arith}
 use Rattle.std.specs.List.{flat_map}
 use Rattle.std.specs.Option.{option_or}
 use Rattle.std.specs.Str.{bytes_eq}
 use Rattle.std.specs.Cmp.Lexicographic.{bytes_decides, nat_list_eq_equiv}
 use Rattle.std.proofs.lemmas.Bool.{cases_Bool, cases_lt}
 use Rattle.std.proofs.lemmas.Grind.{flat_map-append}
-use Rattle.std.proofs.lemmas.List.{append-nil, drop_more, drop_all}
+use Rattle.std.proofs.lemmas.List.{drop_more, drop_all}
 use Rattle.std.proofs.lemmas.List.Elements.{filter-append}
 use Rattle.std.proofs.lemmas.List.Folds.{find-append}
 use Rattle.std.proofs.lemmas.Option.{slice_get_within, get_or_from_slice_get}
 use Rattle.cs_base.specs.Token.{Token}
 use Rattle.cs_base.specs.Units.{UnitValue}
+use Rattle.cs_base.proofs.OptionLemmas.{option_or-None}
 use Rattle.analysis.specs.Below.scope_bind.declared.bound.Name.{Name}
 use Rattle.analysis.specs.Below.linkage_join.Linkage.{UnitValue as ExternalNames, first_spelled, names_of}
 use Rattle.analysis.specs.Below.linkage_join.Firsts.{Table, with_names}
 use Rattle.analysis.specs.Analysis.{UnitAnalysis}
 use Rattle.analysis.specs.Links.{is_external_name, external_names_from, names_of_unit, names_of_units}
-use Rattle.analysis.proofs.Below.linkage_join.FirstsLemmas.{option_or-None}
 use Rattle.analysis.proofs.ExternalLemmas.{none_left}
+use Rattle.analysis.proofs.Below.linkage_join.LinkageLemmas.{first_in_one as first-in-one}
 use Rattle.calls_of.specs.Externals.{own_name, Adds, AddsUnits}
 use Rattle.calls_of.proofs.OwnerLemmas.{option_or-assoc}
 
@@ -94,13 +95,6 @@ adds-all own names toks k all old now past so_far =
     so_far now (rw none (adds-none own now))
 
 -- ---- units
-
-first-in-one : (project text : List ℕ) (u : ExternalNames)
-    → first_spelled text (names_of project (u ∷ [])) ≡ (if bytes_eq project u.project then first_spelled text u.names else None)
-first-in-one project text u = elim (cases_Bool (bytes_eq project u.project)) [
-  | inl own ↦ rw own (ap (first_spelled text) (append-nil u.names))
-  | inr other ↦ rw other refl
-]
 
 -- the names of one unit
 pub adds-unit : (u : ExternalNames) (old new : Table) → Adds u.project u.names old new → AddsUnits (u ∷ []) old new

@@ -1,15 +1,15 @@
 -- The orders of nodes and of edges.
 use Rattle.std.proofs.Common.{◌≡◌, ℕ, List, [], ◌∷◌, true, false, ap, sym, refl, ◌∙◌, inl, inr, arith}
 use Rattle.std.specs.Prelude.{◌==◌, ◌&&◌, nat_lt}
-use Rattle.std.specs.Cmp.Lexicographic.{slice_cmp, bytes_decides}
+use Rattle.std.specs.Cmp.Lexicographic.{slice_cmp}
 use Rattle.std.specs.List.Sorted.{IsStrictlySortedBy}
-use Rattle.std.specs.Ordering.{is_eq, nat_cmp, ordering_then}
+use Rattle.std.specs.Ordering.{nat_cmp, ordering_then}
 use Rattle.std.specs.declared.cmp.Ordering.{Ordering}
 use Rattle.std.specs.declared.cmp.Ordering.TheVariants.{Less, Equal, Greater}
 use Rattle.std.proofs.lemmas.Bool.{cases_Bool, eqb-true, le-ltb, or_cases, and_parts}
 use Rattle.std.proofs.lemmas.Cmp.{then_total, on_total, nat_list_cmp_total, nat_cmp_total, tied_itself}
-use Rattle.std.proofs.lemmas.Map.Text.{is_eq-slice_cmp}
 use Rattle.cs_base.specs.declared.positions.Pos.{Pos}
+use Rattle.cs_base.proofs.OrderLemmas.{nat_cmp-tie, tied as text-tie}
 use Rattle.analysis.specs.Below.source_files.Files.{Table}
 use Rattle.calls_of.specs.declared.nodes.Node.{Node}
 use Rattle.calls_of.specs.declared.nodes.NodeKind.{NodeKind}
@@ -26,18 +26,6 @@ pub then_tie : (o p : Ordering) → ordering_then o p ≡ Equal → (o ≡ Equal
 then_tie Less p e = cc
 then_tie Equal p e = (refl, e)
 then_tie Greater p e = cc
-
-nat_cmp-tie : (m n : ℕ) → nat_cmp m n ≡ Equal → m ≡ n
-nat_cmp-tie m n e = elim (cases_Bool (nat_lt m n)) [
-  | inl less ↦ (let wrong : Less ≡ Equal = rw less at e in absurd (cc))
-  | inr not_less ↦ elim (cases_Bool (m == n)) [
-    | inl same ↦ eqb-true m n same
-    | inr apart ↦ (let wrong : Greater ≡ Equal = rw (not_less, apart) at e in absurd (cc))
-  ]
-]
-
-text-tie : (xs ys : List ℕ) → slice_cmp nat_cmp xs ys ≡ Equal → xs ≡ ys
-text-tie xs ys e = (bytes_decides xs ys).0 (sym (is_eq-slice_cmp xs ys) ∙ ap is_eq e)
 
 kind-tie : (a b : NodeKind) → nat_cmp (kind_number a) (kind_number b) ≡ Equal → a ≡ b
 kind-tie Macro Macro e = refl

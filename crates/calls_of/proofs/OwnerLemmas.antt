@@ -10,10 +10,10 @@ use Rattle.std.proofs.lemmas.List.Folds.{find-append}
 use Rattle.std.proofs.lemmas.Option.{slice_get-get_or}
 use Rattle.cs_base.specs.declared.positions.Pos.{Pos}
 use Rattle.cs_base.specs.Token.{Token}
+use Rattle.cs_base.proofs.OptionLemmas.{option_or-None}
 use Rattle.analysis.specs.Below.lexer.Places.{pos}
 use Rattle.analysis.specs.Below.source_files.Files.{Table, Entry, Absent, entry}
 use Rattle.analysis.specs.Below.source_files.KeptFiles.{kept_at}
-use Rattle.analysis.proofs.Below.linkage_join.FirstsLemmas.{option_or-None}
 use Rattle.calls_of.specs.Bodies.{Owned, owned, is_pos, begins_at, owner_among, owned_in_file, owned_from}
 use Rattle.calls_of.specs.Owners.{Owners, owner_with, Grew}
 

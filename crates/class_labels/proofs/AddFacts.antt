@@ -4,6 +4,7 @@ use Rattle.std.specs.Prelude.{slice_get}
 use Rattle.std.proofs.lemmas.Option.{same_Some, slice_get_within}
 use Rattle.std.proofs.lemmas.Bool.{cases_eq, cases_lt}
 use Rattle.std.proofs.lemmas.List.{length-replicate, get_or_append_left, map-append}
+use Rattle.cs_base.proofs.ListLemmas.{get-front as slice_get-append_left}
 use Rattle.class_labels.specs.declared.partition.Row.{Row}
 use Rattle.class_labels.specs.declared.spots.Spot.{Spot}
 use Rattle.class_labels.specs.Labels.{Labels, spot, fresh_part, added, walk_at, length_at}
@@ -29,11 +30,6 @@ length-fresh_part c zero = refl
 length-fresh_part c (suc n) =
     let a : length (fresh_part c n ++ spot c n ∷ []) ≡ length (fresh_part c n) + 1 = length-append (fresh_part c n) (spot c n ∷ []) in
     omega (arith, length-fresh_part c n)
-
-pub slice_get-append_left : {X : Type 0} (xs ys : List X) (k : ℕ) → k < length xs → slice_get (xs ++ ys) k ≡ slice_get xs k
-slice_get-append_left [] ys k h = absurd (omega arith)
-slice_get-append_left (x ∷ xs) ys zero h = refl
-slice_get-append_left (x ∷ xs) ys (suc k) h = slice_get-append_left xs ys k (omega arith)
 
 pub slice_get-append_right : {X : Type 0} (xs ys : List X) (k j : ℕ) → k ≡ length xs + j → slice_get (xs ++ ys) k ≡ slice_get ys j
 slice_get-append_right [] ys k j e = ap (λ v. slice_get ys v) (let f : k ≡ j = omega arith in f)

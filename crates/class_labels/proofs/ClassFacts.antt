@@ -1,6 +1,7 @@
 -- What a cut and a union make of one class.
 use Rattle.std.proofs.Common.{◌≡◌, ℕ, ◌+◌, ◌-◌, ◌<◌, ◌≤◌, List, [], ◌++◌, map, ap, sym, ◌∙◌, inl, inr, arith, subst, Some}
 use Rattle.std.specs.Prelude.{slice_get}
+use Rattle.cs_base.proofs.NumberLemmas.{minus_none}
 use Rattle.class_labels.specs.declared.spots.Spot.{Spot}
 use Rattle.class_labels.specs.Labels.{spot, moved}
 use Rattle.class_labels.specs.Table.{IsClass}
@@ -67,9 +68,6 @@ class_other c k n d l xs spots apart_c apart_n class = record {
     | inr s ↦ class.found j o (at_same spots j w.was (spot d o) w.at (sym s.kept ∙ w.is))
   ];
 }
-
-minus_none : (o : ℕ) → o - 0 ≡ o
-minus_none o = omega arith
 
 minus_zero : (p o : ℕ) → p - 0 ≡ o → p ≡ o
 minus_zero p o e = omega arith

@@ -2,6 +2,7 @@
 use Rattle.std.proofs.Common.{◌≡◌, ℕ, ◌<◌, List, [], ◌∷◌, zero, suc, length, map, refl, ap, sym, ◌∙◌, arith, Some, None}
 use Rattle.std.specs.Prelude.{slice_get}
 use Rattle.std.proofs.lemmas.Option.{none-some, same_Some}
+use Rattle.cs_base.proofs.ListLemmas.{none_mapped as past_map}
 use Rattle.class_labels.proofs.ListFacts.{now_at}
 
 -- a place of a list holds something or lies past its end
@@ -18,11 +19,6 @@ pub look_below : {A : Type 0} (xs : List A) (k : ℕ) → k < length xs → (x :
 look_below [] k h = absurd (omega arith)
 look_below (x ∷ xs) zero h = (x, refl)
 look_below (x ∷ xs) (suc k) h = look_below xs k (omega arith)
-
-pub past_map : {A B : Type 0} (f : A → B) (xs : List A) (k : ℕ) → slice_get xs k ≡ None → slice_get (map f xs) k ≡ None
-past_map f [] k h = refl
-past_map f (x ∷ xs) zero h = absurd (none-some x (sym h))
-past_map f (x ∷ xs) (suc k) h = past_map f xs k h
 
 -- equal before, equal after
 pub map_grows : {A B : Type 0} (f : A → B) (xs : List A) (p q : ℕ) → slice_get xs p ≡ slice_get xs q → slice_get (map f xs) p ≡ slice_get (map f xs) q

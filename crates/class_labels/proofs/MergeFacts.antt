@@ -4,6 +4,7 @@ use Rattle.std.specs.Prelude.{slice_get}
 use Rattle.std.proofs.lemmas.Option.{same_Some}
 use Rattle.std.proofs.lemmas.Bool.{cases_eq, cases_lt, cond-true, cond-false, lt-ltb, le-ltb, eq-eqb, ne_eqb}
 use Rattle.std.proofs.lemmas.List.{length-map}
+use Rattle.cs_base.proofs.NumberLemmas.{minus_none as minus_zero}
 use Rattle.class_labels.specs.declared.spots.Spot.{Spot}
 use Rattle.class_labels.specs.Labels.{Labels, spot, moved, united, merged, moved_parts, walk_at, length_at}
 use Rattle.class_labels.specs.Table.{IsTable, IsUnion}
@@ -32,9 +33,6 @@ pub record MergeLaws (c d : ℕ) (t u : Labels) : Type 0 where
   pub offsets : (p : ℕ) (s : Spot) → slice_get t.spots p ≡ Some s → (r : Spot) × (slice_get u.spots p ≡ Some r) × (r.offset ≡ s.offset)
   pub offsets_back : (p : ℕ) (r : Spot) → slice_get u.spots p ≡ Some r → (s : Spot) × (slice_get t.spots p ≡ Some s) × (s.offset ≡ r.offset)
   pub of_first : (p o : ℕ) (r : Spot) → slice_get t.spots p ≡ Some (spot c o) → slice_get u.spots p ≡ Some r → (r.class ≡ c) ⊎ (r.class ≡ d)
-
-minus_zero : (n : ℕ) → n - 0 ≡ n
-minus_zero n = omega arith
 
 moved_whole : (a b : ℕ) (s : Spot) → (s.class ≡ b) × (moved b 0 a s ≡ spot a s.offset) ⊎ ((s.class ≡ b → ⊥) × (moved b 0 a s ≡ s))
 moved_whole a b s = elim (moved_cases b 0 a s) [

@@ -3,13 +3,14 @@ use Rattle.std.proofs.Common.{◌≡◌, ℕ, ◌+◌, ◌-◌, ◌<◌, ◌≤�
 use Rattle.std.specs.Prelude.{slice_get}
 use Rattle.std.proofs.lemmas.Option.{same_Some, none-some}
 use Rattle.std.proofs.lemmas.Bool.{cases_eq, cases_lt}
+use Rattle.cs_base.proofs.ListLemmas.{none_mapped as past_map}
 use Rattle.class_labels.specs.declared.spots.Spot.{Spot}
 use Rattle.class_labels.specs.Labels.{spot, moved}
 use Rattle.class_labels.specs.Table.{In, IsClass}
 use Rattle.class_labels.specs.Links.{members, with_part, with_parts}
 use Rattle.class_labels.proofs.ListFacts.{now_at}
 use Rattle.class_labels.proofs.MovedFacts.{moved_cases, moved_there}
-use Rattle.class_labels.proofs.LookFacts.{look, past_map}
+use Rattle.class_labels.proofs.LookFacts.{look}
 use Rattle.class_labels.proofs.LookFacts.Look.{holds, past}
 use Rattle.class_labels.proofs.MemberFacts.{members_more}
 

@@ -5,9 +5,9 @@ use Rattle.std.specs.List.{flat_map}
 use Rattle.std.proofs.lemmas.Option.{slice_get-get_or}
 use Rattle.std.proofs.lemmas.List.{drop_more}
 use Rattle.std.proofs.lemmas.Bool.{cases_eq}
+use Rattle.cs_base.proofs.ListLemmas.{get-front as slice_get-append_left}
 use Rattle.class_labels.specs.declared.spots.Spot.{Spot}
 use Rattle.class_labels.specs.Regrown.{share, place, places_before, ArePlaces, regrown_links}
-use Rattle.class_labels.proofs.AddFacts.{slice_get-append_left}
 use Rattle.class_labels.proofs.RegrownFacts.{place_next, place_grows}
 
 pub place_none : (c m : ℕ) (spots : List Spot) → place c m spots 0 ≡ 0

@@ -5,6 +5,7 @@ use Rattle.std.specs.List.{flat_map}
 use Rattle.std.proofs.lemmas.Option.{none-some, same_Some, slice_get_within}
 use Rattle.std.proofs.lemmas.List.{length-map, get_or-set_same, get_or-set_other}
 use Rattle.std.proofs.lemmas.Bool.{cases_eq, cases_lt, cases_order, cond-true, cond-false, eq-eqb, ne_eqb}
+use Rattle.cs_base.proofs.ListLemmas.{get-front as slice_get-append_left}
 use Rattle.class_labels.specs.declared.spots.Spot.{Spot}
 use Rattle.class_labels.specs.Labels.{Labels, spot, fresh_part, walk_at, length_at}
 use Rattle.class_labels.specs.Table.{In, Distinct, IsClass, IsTable, inner, past_first}
@@ -12,7 +13,7 @@ use Rattle.class_labels.specs.Regrown.{piece, share, place, regrown}
 use Rattle.class_labels.proofs.ListFacts.{In-map, In-map_cases}
 use Rattle.class_labels.proofs.LookFacts.{look_below}
 use Rattle.class_labels.proofs.FieldFacts.{get_or-map_any, member_at}
-use Rattle.class_labels.proofs.AddFacts.{length-fresh_part, fresh_part-at, slice_get-append_left, slice_get-append_right, inner-append, inner-fresh}
+use Rattle.class_labels.proofs.AddFacts.{length-fresh_part, fresh_part-at, slice_get-append_right, inner-append, inner-fresh}
 use Rattle.class_labels.proofs.CutFacts.{class_as, past_first-some}
 
 -- what stands for one character

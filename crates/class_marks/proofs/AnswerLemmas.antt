@@ -1,7 +1,6 @@
 -- Tests and elements of lists, as code gives them.
-use Rattle.std.proofs.Common.{◌≡◌, ℕ, ◌<◌, Bool, true, false, not, List, Result, Ok, Err, Some, length, get_or, slice_get, refl, sym, ap, ◌∙◌}
+use Rattle.std.proofs.Common.{◌≡◌, Bool, true, false, not, Result, Ok, Err, refl}
 use Rattle.std.specs.Prelude.{IfOk, MatchBool}
-use Rattle.std.proofs.lemmas.Option.{slice_get-get_or}
 
 -- a test that says the opposite
 pub said_not : (b : Bool) (A B C D : Type 0) → MatchBool b A B → (A → D) → (B → C) → MatchBool (not b) C D
@@ -16,10 +15,6 @@ told_not false A passed failed = failed refl
 pub if_ok_then : {X E : Type 0} (r : Result X E) (P Q : X → Type 0) → IfOk r P → ((x : X) → P x → Q x) → IfOk r Q
 if_ok_then (Ok x) P Q h follows = follows x h
 if_ok_then (Err e) P Q h follows = tt
-
--- the element that an index reads
-pub read_at : {X : Type 0} (xs : List X) (k : ℕ) (x : X) → k < length xs → x ≡ get_or xs k x → slice_get xs k ≡ Some x
-read_at {X = X} xs k x within is = slice_get-get_or xs k x within ∙ ap (λ (y : X). Some y) (sym is)
 
 -- the same of a test itself
 pub told : (b : Bool) (A : Type 0) → (b ≡ true → A) → (b ≡ false → A → ⊥) → MatchBool b A (A → ⊥)

@@ -8,6 +8,7 @@ use Rattle.std.proofs.lemmas.Option.{none-some}
 use Rattle.cs_base.specs.declared.positions.Part.{Part}
 use Rattle.cs_base.specs.declared.positions.Pos.{Pos}
 use Rattle.cs_base.specs.Token.{Token}
+use Rattle.cs_base.proofs.ListLemmas.{any_at as any_from}
 use Rattle.eclass_map.specs.ClassTable.{Table, class_in, part_of}
 use Rattle.eclass_map.specs.Positions.{holds}
 use Rattle.analysis.proofs.PartLemmas.{held_character, part_once}
@@ -15,7 +16,6 @@ use Rattle.analysis.specs.Analysed.{Analysed}
 use Rattle.analysis.specs.Classes.{AreItsClasses}
 use Rattle.analysis.specs.Parts.{Holds, IsPart}
 use Rattle.analysis.proofs.ClassLemmas.{held_by, member_walked, walked_member}
-use Rattle.analysis.proofs.PlaceNameLemmas.{any_from}
 use Rattle.class_marks.specs.declared.roles.Role.{Role}
 use Rattle.class_marks.specs.Marks.{class_at, is_class, touches, AreMarked}
 use Rattle.class_marks.specs.Roles.{names_with}

@@ -131,7 +131,7 @@ operator_at-end : (toks : List Token) (level at : ℕ) → length toks ≤ at �
 unfolding operator_at
 operator_at-end toks level at end = rw (slice_get_past toks at end) refl
 
-with_operator-same : {A : Type 0} (o : Option Operator) (none : A) (f g : Operator → A) → ((operator : Operator) → f operator ≡ g operator)
+pub with_operator-same : {A : Type 0} (o : Option Operator) (none : A) (f g : Operator → A) → ((operator : Operator) → f operator ≡ g operator)
     → with_operator o none f ≡ with_operator o none g
 with_operator-same None none f g same = refl
 with_operator-same (Some operator) none f g same = same operator

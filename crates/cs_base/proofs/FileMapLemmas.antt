@@ -86,7 +86,7 @@ comes_before-are_in_order e (f ∷ es) sorted =
     All-cons (λ (g : Edit). comes_before e.path g.path ≡ true) f es next
     (λ k d below. comes_before-trans e.path f.path (get_or es k d).path next (rest k d below))
 
-are_in_order-tail : (e : Edit) (es : List Edit) → IsTrue (are_in_order (e ∷ es)) → IsTrue (are_in_order es)
+pub are_in_order-tail : (e : Edit) (es : List Edit) → IsTrue (are_in_order (e ∷ es)) → IsTrue (are_in_order es)
 are_in_order-tail e [] sorted = refl
 are_in_order-tail e (f ∷ es) sorted = (and_parts _ _ sorted).1
 

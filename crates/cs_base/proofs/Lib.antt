@@ -9,3 +9,10 @@ pub mod UnitLemmas
 pub mod PathLaws
 pub mod NormalPaths
 pub mod CauseLemmas
+pub mod ListLemmas
+pub mod BoolLemmas
+pub mod OptionLemmas
+pub mod OrderLemmas
+pub mod NumberLemmas
+pub mod AnswerLemmas
+pub mod PlaceLemmas

@@ -10,6 +10,7 @@ use Rattle.cs_base.specs.declared.positions.Pos.{Pos}
 use Rattle.cs_base.specs.declared.spans.Span.{Span}
 use Rattle.cs_base.specs.Padding.{padded}
 use Rattle.cs_base.specs.Spans.{lies_in, origin_by, origins_by, AreSpans, whole, moved}
+use Rattle.cs_base.specs.Token.{Token, origin_at}
 use Rattle.cs_base.proofs.SpanLemmas.{origin_by-past, origin_by-before, origin_by-moved, origin_by-left, origin_by-right, AreSpansFrom-moved, AreSpans-append}
 
 -- ---- lists made of each number
@@ -195,3 +196,10 @@ AreSpans-one k spans first fits are = rw (← single-moved k first) (AreSpans-ap
 pub origins_by-none : origins_by 0 [] ≡ []
 unfolding origins_by
 origins_by-none = refl
+
+pub origin_cases : (t : Token) (k : ℕ) (p : Pos) → origin_at t k ≡ Some p → slice_get t.origins k ≡ Some (Some p)
+origin_cases t k p e = by (slice_get t.origins k) e
+  where
+    by : (o : Option (Option Pos)) → option_and_then (λ (x : Option Pos). x) o ≡ Some p → o ≡ Some (Some p)
+    by None f = absurd (cc)
+    by (Some x) f = ap (λ (y : Option Pos). Some y) f

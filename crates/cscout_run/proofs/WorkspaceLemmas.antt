@@ -1,21 +1,21 @@
 -- What is read of a workspace file is a workspace.
-use Rattle.std.proofs.Common.{◌≡◌, ℕ, Bool, true, false, not, ◌&&◌, ◌||◌, ◌+◌, ◌≤◌, List, [], ◌∷◌, ◌++◌, length, Option, None, Some, Result, Ok, Err, IsTrue, refl, sym, ap, subst, ◌∙◌, arith, codes, if◌then◌else◌}
+use Rattle.std.proofs.Common.{◌≡◌, ℕ, Bool, true, false, not, ◌||◌, ◌+◌, ◌≤◌, List, [], ◌∷◌, ◌++◌, length, Option, None, Some, Result, Ok, Err, refl, sym, ap, subst, ◌∙◌, arith, codes, if◌then◌else◌}
 use Rattle.std.specs.Prelude.{nat_lt, ◌==◌, ◌^◌}
 use Rattle.std.specs.List.{list_all, onto_first}
 use Rattle.std.specs.Str.{bytes_eq, is_utf8}
-use Rattle.std.proofs.lemmas.Bool.{and_parts, and_from, or_parts, not-true, not_from_false, false≢true}
+use Rattle.std.proofs.lemmas.Bool.{and_parts, and_from, or_parts, not_from_false}
 use Rattle.std.proofs.lemmas.Bool.Decides.{nat_tests}
-use Rattle.std.proofs.lemmas.List.Folds.{list_all-append}
 use Rattle.cs_base.specs.declared.ws_units.Setting.{Setting}
 use Rattle.cs_base.specs.declared.ws_units.Setting.TheVariants as setting
 use Rattle.cs_base.specs.declared.ws_units.Standard.{Standard as Language}
 use Rattle.cs_base.specs.declared.ws_units.Standard.TheVariants.{C99, C11, Gnu99, Gnu11}
 use Rattle.cs_base.specs.Paths.{normal_path_of}
-use Rattle.cs_base.specs.Units.{line_feed, backslash, is_blank, is_nondigit, is_identifier, begins_with, ends_with, has_bad_ends, is_writable, is_project, is_setting, defines_fit}
+use Rattle.cs_base.specs.Units.{line_feed, backslash, is_blank, is_nondigit, is_identifier, begins_with, ends_with, has_bad_ends, is_writable, is_setting, defines_fit}
 use Rattle.cs_base.specs.Limits.{most_units}
+use Rattle.cs_base.proofs.ListLemmas.{list_all-push as pushed}
 use Rattle.ws_file.specs.Workspace.{WorkspaceValue, IsWorkspace, workspace, is_prefix}
 use Rattle.ws_file.specs.Lines.{lines_of, trimmed, first_word, rest_of, line_word}
-use Rattle.ws_file.specs.Reading.{Reading, WsFault, too_many_units, at_first, of_standard, with_project, with_standard, with_directory, with_prefix, with_define, with_undefine, with_unit, is_bad_path, is_bad_include, with_word, is_comment, with_text, with_line, checked, read_lines, workspace_of}
+use Rattle.ws_file.specs.Reading.{Reading, WsFault, too_many_units, at_first, of_standard, is_bad_path, is_bad_include, with_word, is_comment, with_text, with_line, checked, read_lines, workspace_of}
 use Rattle.ws_file.specs.Taking.{IsReading, IsTrimmed, has_no_feed}
 use Rattle.ws_file.specs.declared.words.LineWord.{LineWord}
 use Rattle.ws_file.specs.declared.words.LineWord.TheVariants as word
@@ -35,9 +35,6 @@ some_if false x y e = cc
 some_else : {X : Type 0} (b : Bool) (o : Option X) (y : X) → (if b then None else o) ≡ Some y → (b ≡ false) × (o ≡ Some y)
 some_else true o y e = cc
 some_else false o y e = (refl, e)
-
-pushed : {X : Type 0} (p : X → Bool) (xs : List X) (x : X) → list_all p xs ≡ true → p x ≡ true → list_all p (xs ++ x ∷ []) ≡ true
-pushed p xs x h q = list_all-append p xs (x ∷ []) ∙ and_from (list_all p xs) (list_all p (x ∷ [])) h (and_from (p x) true q refl)
 
 -- ---- One line
 

@@ -5,6 +5,7 @@ use Rattle.std.specs.List.{insert}
 use Rattle.std.proofs.lemmas.Option.{slice_get_within, get_or_from_slice_get}
 use Rattle.std.proofs.lemmas.Bool.{cases_Bool}
 use Rattle.cs_base.specs.declared.positions.Part.{Part}
+use Rattle.cs_base.proofs.ListLemmas.{get-front as slice_get-append_left}
 use Rattle.eclass_map.specs.declared.token_list.Added.{Added}
 use Rattle.class_labels.specs.Labels.{Labels, spot, added, fresh_part, walk_at}
 use Rattle.class_labels.specs.Table.{In}
@@ -13,7 +14,7 @@ use Rattle.eclass_map.specs.ClassTable.{Table, begun_count, fresh_places, with_t
 use Rattle.class_labels.proofs.ListFacts.{was_at, now_at}
 use Rattle.class_labels.proofs.LookFacts.{look_below}
 use Rattle.class_labels.proofs.FieldFacts.{member_at}
-use Rattle.class_labels.proofs.AddFacts.{slice_get-append_left, slice_get-append_right, fresh_part-at, added_cases}
+use Rattle.class_labels.proofs.AddFacts.{slice_get-append_right, fresh_part-at, added_cases}
 use Rattle.class_labels.proofs.AddFacts.AddedCase.{fresh as case_fresh, other as case_other}
 use Rattle.eclass_map.proofs.TokenFacts.{holds_along}
 use Rattle.eclass_map.proofs.LinkedFacts.{numbered, label_of, number_within}

@@ -6,6 +6,7 @@ use Rattle.std.proofs.lemmas.Option.{same_Some, slice_get_within}
 use Rattle.std.proofs.lemmas.Bool.{cases_Bool, cases_eq, cases_lt, or_parts, and_cases, ltb-false, eqb-false, leb-false}
 use Rattle.cs_base.specs.declared.positions.Pos.{Pos}
 use Rattle.cs_base.specs.declared.positions.Part.{Part}
+use Rattle.cs_base.proofs.ListLemmas.{get-front as slice_get-append_left}
 use Rattle.eclass_map.specs.declared.token_list.Added.{Added}
 use Rattle.class_labels.specs.declared.spots.Spot.{Spot}
 use Rattle.class_labels.specs.Labels.{Labels, spot, added, fresh_part}
@@ -13,7 +14,7 @@ use Rattle.eclass_map.specs.Positions.{along, holds, index_at, Begins, begins_by
 use Rattle.eclass_map.specs.ClassTable.{Table, IsHeld, IsFree, begun_count, fresh_places, with_token}
 use Rattle.eclass_map.specs.Kept.{IsKept}
 use Rattle.class_labels.proofs.LookFacts.{look_below}
-use Rattle.class_labels.proofs.AddFacts.{IsTable-added, slice_get-append_left, slice_get-append_right, length-fresh_part, fresh_part-at, added_at}
+use Rattle.class_labels.proofs.AddFacts.{IsTable-added, slice_get-append_right, length-fresh_part, fresh_part-at, added_at}
 use Rattle.class_labels.proofs.AddFacts.AddedAt.{old as spot_old, new as spot_new}
 use Rattle.eclass_map.proofs.TokenFacts.{holding, holds_from, begun, Halved, along_of, index_of_holder}
 use Rattle.eclass_map.proofs.TokenFacts.Begun.{file_before, same_file}

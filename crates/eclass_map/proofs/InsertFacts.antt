@@ -5,10 +5,11 @@ use Rattle.std.specs.List.{insert}
 use Rattle.std.proofs.lemmas.Option.{none-some, same_Some}
 use Rattle.std.proofs.lemmas.Bool.{cases_Bool, cases_eq, cond-true, cond-false}
 use Rattle.cs_base.specs.declared.positions.Pos.{Pos}
+use Rattle.cs_base.proofs.ListLemmas.{get-front as slice_get-append_left}
 use Rattle.eclass_map.specs.declared.token_list.Added.{Added}
 use Rattle.eclass_map.specs.Positions.{along, holds, index_at, begins_by}
 use Rattle.eclass_map.specs.ClassTable.{begun_count, fresh_places}
-use Rattle.class_labels.proofs.AddFacts.{slice_get-append_left, slice_get-append_right}
+use Rattle.class_labels.proofs.AddFacts.{slice_get-append_right}
 use Rattle.eclass_map.proofs.TokenFacts.{Halved}
 
 -- what is in a list with one element more

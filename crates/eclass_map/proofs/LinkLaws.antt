@@ -6,6 +6,7 @@ use Rattle.std.proofs.lemmas.Bool.{cases_lt}
 use Rattle.cs_base.specs.declared.positions.Pos.{Pos}
 use Rattle.cs_base.specs.declared.positions.Part.{Part}
 use Rattle.cs_base.specs.Token.{Token}
+use Rattle.cs_base.proofs.ListLemmas.{get-front as slice_get-append_left}
 use Rattle.class_labels.specs.declared.spots.Spot.{Spot}
 use Rattle.class_labels.specs.Chain.{Chain, Least}
 use Rattle.class_labels.specs.Chain.Chain.{here, along as step_along, back as step_back}
@@ -13,7 +14,7 @@ use Rattle.class_labels.specs.Labels.{spot, no_labels}
 use Rattle.eclass_map.specs.Positions.{along, holds, index_at}
 use Rattle.eclass_map.specs.ClassTable.{Table, label, IsHeld, IsLinked, SameOrLinked, AddsToken, LinkedBy, AreLinks}
 use Rattle.eclass_map.specs.Kept.{IsKept}
-use Rattle.class_labels.proofs.AddFacts.{slice_get-append_left, slice_get-append_right}
+use Rattle.class_labels.proofs.AddFacts.{slice_get-append_right}
 use Rattle.eclass_map.proofs.TokenFacts.{Holding, holding}
 use Rattle.class_labels.proofs.WalkFacts.{then, turned}
 use Rattle.eclass_map.proofs.LinkedFacts.{numbered, JoinIn, linked_held}

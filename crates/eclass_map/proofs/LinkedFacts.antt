@@ -6,6 +6,7 @@ use Rattle.std.proofs.lemmas.List.{length-map}
 use Rattle.std.proofs.lemmas.Option.{none-some, same_Some, slice_get_within}
 use Rattle.cs_base.specs.declared.positions.Pos.{Pos}
 use Rattle.cs_base.specs.Token.{Token, origin_at}
+use Rattle.cs_base.proofs.OriginLemmas.{origin_cases}
 use Rattle.eclass_map.specs.declared.token_list.Added.{Added}
 use Rattle.class_labels.specs.declared.spots.Spot.{Spot}
 use Rattle.class_labels.specs.Chain.{Chain, Least}
@@ -200,9 +201,6 @@ chain_up t x y h p q i j at_p at_q (step_back s c) = let r = lower t x y h p i _
 origin_some : (o : Option (Option Pos)) (p : Pos) → option_and_then (λ origin. origin) o ≡ Some p → o ≡ Some (Some p)
 origin_some None p e = absurd (none-some p e)
 origin_some (Some o) p e = ap Some e
-
-origin_cases : (x : Token) (k : ℕ) (p : Pos) → origin_at x k ≡ Some p → slice_get x.origins k ≡ Some (Some p)
-origin_cases x k p e = origin_some (slice_get x.origins k) p e
 
 linked_number : (t : Table) (x : Token) (whole : WholeNumbers t x.origins) (k : ℕ) (p : Pos) → origin_at x k ≡ Some p → (i : ℕ) × (index_at t.tokens p ≡ Some i) × (slice_get (numbers_in t x) k ≡ Some i)
 linked_number t x whole k p e =

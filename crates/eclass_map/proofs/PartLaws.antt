@@ -6,6 +6,7 @@ use Rattle.std.proofs.lemmas.Option.{none-some, same_Some, slice_get_within, get
 use Rattle.std.proofs.lemmas.Bool.{cases_Bool, cases_lt, cases_order, cond-true, cond-false, and_parts, and_from, eqb-true, eq-eqb}
 use Rattle.cs_base.specs.declared.positions.Pos.{Pos}
 use Rattle.cs_base.specs.declared.positions.Part.{Part}
+use Rattle.cs_base.proofs.PlaceLemmas.{pos_is as same_pos}
 use Rattle.std.proofs.lemmas.List.{get_or_past}
 use Rattle.eclass_map.specs.declared.token_list.Added.{Added}
 use Rattle.class_labels.specs.declared.spots.Spot.{Spot}
@@ -22,7 +23,7 @@ use Rattle.class_labels.proofs.NextFacts.{In-slice_get}
 use Rattle.eclass_map.proofs.LinkedFacts.{numbered, label_of, number_within}
 use Rattle.eclass_map.proofs.TokenFacts.{holds_from, index_of_token, found_in, index_of_holder}
 use Rattle.eclass_map.proofs.WholeFacts.{entry_of}
-use Rattle.eclass_map.proofs.PartPlaces.{in_token, same_pos, part_label, start_offset, start_begun, behind_label}
+use Rattle.eclass_map.proofs.PartPlaces.{in_token, part_label, start_offset, start_begun, behind_label}
 
 abbrev record_part : Pos → ℕ → Part
 record_part p n = record { start = p; len = n }

@@ -5,6 +5,7 @@ use Rattle.std.proofs.lemmas.Option.{same_Some, slice_get_within}
 use Rattle.std.proofs.lemmas.Bool.{cases_lt, cases_order}
 use Rattle.cs_base.specs.declared.positions.Pos.{Pos}
 use Rattle.cs_base.specs.declared.positions.Part.{Part}
+use Rattle.cs_base.proofs.PlaceLemmas.{pos_is as same_pos}
 use Rattle.eclass_map.specs.declared.token_list.Added.{Added}
 use Rattle.class_labels.specs.declared.spots.Spot.{Spot}
 use Rattle.class_labels.specs.Labels.{spot, length_at}
@@ -64,9 +65,6 @@ in_token t kept p i s at there =
       inside = h.less;
       offset = token_offset t kept f.place f.token (p.at - f.token.place.start.at) i s f.at f.is there;
     }
-
-pub same_pos : (p q : Pos) → p.file ≡ q.file → p.at ≡ q.at → p ≡ q
-same_pos p q e f = λ i. record { file = e i; at = f i }
 
 -- how deep in its token each character of a part lies
 pub part_depth : (t : Table) → IsKept t → (p : Pos) (i c k : ℕ) (r : Added) (d : ℕ) → slice_get t.labels.spots i ≡ Some (spot c 0) → slice_get t.tokens k ≡ Some r → r.first + d ≡ i → d < r.place.len

@@ -8,6 +8,7 @@ use Rattle.std.proofs.lemmas.List.{length-map, get_or_past, get_or-set_same, get
 use Rattle.std.proofs.lemmas.List.Sums.{sum_by-cons}
 use Rattle.cs_base.specs.declared.positions.Pos.{Pos}
 use Rattle.cs_base.specs.declared.positions.Part.{Part}
+use Rattle.cs_base.proofs.ListLemmas.{map-map as map_of_map}
 use Rattle.eclass_map.specs.declared.token_list.Added.{Added}
 use Rattle.class_labels.specs.Labels.{Labels, spot, walk_at, length_at}
 use Rattle.class_labels.specs.Table.{In}
@@ -39,10 +40,6 @@ mapped_alike f g [] [] long same = refl
 mapped_alike f g [] (y ∷ ys) long same = absurd (omega arith)
 mapped_alike f g (x ∷ xs) [] long same = absurd (omega arith)
 mapped_alike f g (x ∷ xs) (y ∷ ys) long same = ap (λ v. v ∷ map f xs) (same 0 x y refl refl) ∙ ap (λ v. g y ∷ v) (mapped_alike f g xs ys (omega arith) (λ i u v at at'. same (suc i) u v at at'))
-
-map_of_map : {A B C : Type 0} (f : B → C) (g : A → B) (xs : List A) → map f (map g xs) ≡ map (λ x. f (g x)) xs
-map_of_map f g [] = refl
-map_of_map f g (x ∷ xs) = ap (λ v. f (g x) ∷ v) (map_of_map f g xs)
 
 -- a token is where its begin and its end move to
 token_moved : (c m : ℕ) (numbers : List ℕ) (t : Table) → ResizeIn c m numbers t → (k : ℕ) (now r : Added) → slice_get (new_tokens numbers t) k ≡ Some now → slice_get t.tokens k ≡ Some r → now.place ≡ moved_token c m t r.place

@@ -4,11 +4,12 @@ use Rattle.std.specs.Prelude.{slice_get}
 use Rattle.std.proofs.lemmas.List.{append-nil, drop_all}
 use Rattle.std.proofs.lemmas.Option.{get_or_from_slice_get}
 use Rattle.cs_base.specs.declared.positions.Pos.{Pos}
+use Rattle.cs_base.proofs.ListLemmas.{get-front as slice_get-append_left}
 use Rattle.eclass_map.specs.declared.places.Run.{Run}
 use Rattle.eclass_map.specs.Positions.{along}
 use Rattle.eclass_map.specs.ClassTable.{fresh_places, nowhere}
 use Rattle.eclass_map.specs.Places.{no_run, next_first, places_of, AreRuns}
-use Rattle.class_labels.proofs.AddFacts.{slice_get-append_left, slice_get-append_right}
+use Rattle.class_labels.proofs.AddFacts.{slice_get-append_right}
 use Rattle.eclass_map.proofs.InsertFacts.{fresh_places_none, fresh_places_more, fresh_places-at, length-fresh_places}
 
 pub length-places_of : (from n : ℕ) (runs : List Run) → AreRuns from runs n → length (places_of runs n) + from ≡ n

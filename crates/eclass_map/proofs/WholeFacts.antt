@@ -108,7 +108,7 @@ pub record Entry (t : Table) (token : Part) : Type 0 where
 pub entry_of : (t : Table) (token : Part) → IsAdded t token → Entry t token
 entry_of t token added = let w = was_at (λ (r : Added). r.place) t.tokens added.0 token added.1 in record { index = added.0; entry = w.was; at = w.at; is = w.is }
 
-start_along : (p : Pos) → along p 0 ≡ p
+pub start_along : (p : Pos) → along p 0 ≡ p
 start_along p = let e : p.at + 0 ≡ p.at = omega arith in λ i. record { file = p.file; at = e i }
 
 token_first : (len : ℕ) → 0 < len → (m : ℕ) × (suc m ≡ len)

@@ -8,38 +8,19 @@ use Rattle.std.proofs.lemmas.Option.{none-some, same_Some}
 use Rattle.cs_base.specs.declared.positions.Pos.{Pos}
 use Rattle.cs_base.specs.declared.positions.Part.{Part}
 use Rattle.cs_base.specs.Token.{Token, origin_at}
+use Rattle.cs_base.proofs.ListLemmas.{at_drop, below_length, drop-some as drop_at}
 use Rattle.eclass_map.specs.declared.token_list.Added.{Added}
 use Rattle.eclass_map.specs.Positions.{along, begins_by, AreTokens}
 use Rattle.eclass_map.specs.ClassTable.{positions, AreWhole}
 use Rattle.eclass_map.specs.Wholeness.{of_tokens, IsIn, LiesAt}
 use Rattle.class_labels.proofs.ListFacts.{was_at, now_at}
 use Rattle.eclass_map.proofs.TokenFacts.{Halved, holds_along, begun_where_held, not_held_before}
+use Rattle.eclass_map.proofs.WholeFacts.{start_along as along_none}
 
 -- ---- lists of origins
 
-along_none : (p : Pos) → along p 0 ≡ p
-along_none p = let e : p.at + 0 ≡ p.at = omega arith in λ i. record { file = p.file; at = e i }
-
 along_more : (p : Pos) (o : ℕ) → along p (suc o) ≡ along (along p 1) o
 along_more p o = let e : p.at + suc o ≡ p.at + 1 + o = omega arith in λ i. record { file = p.file; at = e i }
-
-below_length : {A : Type 0} (xs : List A) (k : ℕ) (x : A) → slice_get xs k ≡ Some x → k < length xs
-below_length [] k x h = absurd (none-some x h)
-below_length (y ∷ xs) zero x h = omega arith
-below_length (y ∷ xs) (suc k) x h = let b = below_length xs k x h in omega arith
-
-drop_by : {A : Type 0} (xs : List A) (k : ℕ) (x : A) → slice_get xs k ≡ Some x → drop k xs ≡ x ∷ drop (suc k) xs
-drop_by [] k x h = absurd (none-some x h)
-drop_by (y ∷ xs) zero x h = ap (λ z. z ∷ xs) (same_Some y x h)
-drop_by (y ∷ xs) (suc k) x h = drop_by xs k x h
-
-drop_at : {A : Type 0} (xs : List A) (k : ℕ) (x : A) → slice_get xs k ≡ Some x → drop k xs ≡ x ∷ drop (k + 1) xs
-drop_at xs k x h = let e : suc k ≡ k + 1 = omega arith in drop_by xs k x h ∙ ap (λ v. x ∷ drop v xs) e
-
-at_drop : {A : Type 0} (xs : List A) (k o : ℕ) → slice_get (drop k xs) o ≡ slice_get xs (k + o)
-at_drop xs zero o = let e : o ≡ 0 + o = omega arith in ap (slice_get xs) e
-at_drop [] (suc k) o = refl
-at_drop (x ∷ xs) (suc k) o = let e : suc (k + o) ≡ suc k + o = omega arith in at_drop xs k o ∙ ap (slice_get (x ∷ xs)) e
 
 -- from character k on the origins are so many positions, and the rest
 from_positions : (os : List (Option Pos)) (n k : ℕ) (p : Pos) → ((o : ℕ) → o < n → slice_get os (k + o) ≡ Some (Some (along p o))) → drop k os ≡ positions p n ++ drop (k + n) os

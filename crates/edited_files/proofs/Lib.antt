@@ -4,3 +4,4 @@ pub mod PutLemmas
 pub mod MadeLemmas
 pub mod CopyLemmas
 pub mod ApplyingLemmas
+pub mod EditLemmas

@@ -1,5 +1,5 @@
 -- Edits by path stay so where one more is put.
-use Rattle.std.proofs.Common.{◌≡◌, ◌≤◌, ◌<◌, ◌+◌, ◌^◌, ℕ, zero, suc, Bool, true, false, ◌&&◌, List, [], ◌∷◌, IsTrue, length, take, get_or, inl, inr, refl, sym, ap, subst, ◌∙◌, arith}
+use Rattle.std.proofs.Common.{◌≡◌, ◌≤◌, ◌<◌, ◌+◌, ◌^◌, ℕ, zero, suc, true, false, List, [], ◌∷◌, IsTrue, length, take, get_or, inl, inr, refl, sym, ap, subst, ◌∙◌, arith}
 use Rattle.std.specs.Prelude.{IsUtf8}
 use Rattle.std.specs.Ordering.{nat_cmp, is_lt, is_eq, ordering_reverse}
 use Rattle.std.specs.declared.cmp.Ordering.{Ordering}
@@ -11,13 +11,8 @@ use Rattle.std.proofs.lemmas.Cmp.{nat_list_cmp_total}
 use Rattle.std.proofs.lemmas.List.Elements.{All-nil, All-cons, All-head, All-tail}
 use Rattle.std.proofs.lemmas.Map.Text.{is_eq-slice_cmp}
 use Rattle.cs_base.specs.Edit.{Edit, comes_before, comes_last, are_in_order, HaveTextPaths, IsKept}
-use Rattle.cs_base.proofs.FileMapLemmas.{bytes_eq-same, bytes_eq-equal, comes_before-apart}
+use Rattle.cs_base.proofs.FileMapLemmas.{bytes_eq-same, bytes_eq-equal, comes_before-apart, are_in_order-tail}
 use Rattle.edited_files.specs.Edited.{with_edit}
-
--- the edits behind the first are in order
-pub are_in_order-tail : (e : Edit) (es : List Edit) → IsTrue (are_in_order (e ∷ es)) → IsTrue (are_in_order es)
-are_in_order-tail e [] sorted = refl
-are_in_order-tail e (f ∷ es) sorted = (and_parts _ _ sorted).1
 
 -- ---- paths
 

@@ -1,5 +1,5 @@
 -- Where an edit stands among those of other paths.
-use Rattle.std.proofs.Common.{◌≡◌, ◌≤◌, ◌<◌, ◌+◌, ◌^◌, ℕ, suc, Bool, true, false, List, [], ◌∷◌, length, set, insert, inl, inr, refl, sym, ap, subst, ◌∙◌, arith}
+use Rattle.std.proofs.Common.{◌≡◌, ◌<◌, ◌+◌, ◌^◌, ℕ, suc, Bool, true, false, List, [], ◌∷◌, length, set, insert, inl, inr, refl, sym, ap, subst, ◌∙◌, arith}
 use Rattle.std.specs.Prelude.{IsUtf8, slice_get}
 use Rattle.std.specs.List.{prefix_len}
 use Rattle.std.specs.Option.{option_map_or}
@@ -7,6 +7,7 @@ use Rattle.std.specs.Str.{bytes_eq}
 use Rattle.std.proofs.lemmas.Bool.{cases_Bool}
 use Rattle.std.proofs.lemmas.List.{length-map, length-set}
 use Rattle.cs_base.specs.Edit.{Edit, edit, comes_before, IsKept}
+use Rattle.cs_base.proofs.ListLemmas.{prefix_len-cons, prefix_len-stop}
 use Rattle.edited_files.specs.declared.text_edits.TextEdit.{TextEdit}
 use Rattle.edited_files.specs.Edited.{with_edit}
 use Rattle.edited_files.specs.Fields.{edit_in, edits_in}
@@ -19,19 +20,6 @@ is_before path e = comes_before e.path path
 
 abbrev pub has_path_at : List TextEdit → ℕ → List ℕ → Bool
 has_path_at es k path = option_map_or (λ (e : TextEdit). bytes_eq e.path path) (slice_get es k) false
-
-prefix_len-cons : {X : Type 0} (p : X → Bool) (x : X) (xs : List X) → p x ≡ true → prefix_len p (x ∷ xs) ≡ suc (prefix_len p xs)
-prefix_len-cons p x xs holds = rw holds (omega arith)
-
-prefix_len-stop : {X : Type 0} (p : X → Bool) (x : X) (xs : List X) → p x ≡ false → prefix_len p (x ∷ xs) ≡ 0
-prefix_len-stop p x xs fails = rw fails refl
-
-pub prefix_len_le : {X : Type 0} (p : X → Bool) (xs : List X) → prefix_len p xs ≤ length xs
-prefix_len_le p [] = omega arith
-prefix_len_le p (x ∷ xs) = elim (cases_Bool (p x)) [
-  | inl holds ↦ let here = prefix_len-cons p x xs holds in let below = prefix_len_le p xs in omega arith
-  | inr fails ↦ let here = prefix_len-stop p x xs fails in omega arith
-]
 
 -- an edit takes the place of that of its path
 pub set_in_place : (es : List TextEdit) (x : TextEdit) (n : ℕ) → n ≡ prefix_len (is_before x.path) es → has_path_at es n x.path ≡ true

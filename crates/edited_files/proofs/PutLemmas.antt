@@ -8,9 +8,9 @@ use Rattle.std.proofs.lemmas.List.{drop_all}
 use Rattle.std.proofs.lemmas.Option.{none-some, same_Some}
 use Rattle.cs_base.specs.Edit.{Edit, edit, comes_before, are_in_order, with_edits}
 use Rattle.cs_base.specs.Outside.{FileMap, bytes_at, with_file}
-use Rattle.cs_base.proofs.FileMapLemmas.{bytes_eq-same, bytes_eq-equal, bytes_at-with_file_other, bytes_at-with_edits, comes_before-apart, comes_before-are_in_order}
+use Rattle.cs_base.proofs.FileMapLemmas.{bytes_eq-same, bytes_eq-equal, bytes_at-with_file_other, bytes_at-with_edits, comes_before-apart, comes_before-are_in_order, are_in_order-tail}
 use Rattle.edited_files.specs.Edited.{ArePut, with_edit, with_each}
-use Rattle.edited_files.proofs.OrderLemmas.{are_in_order-tail, before-apart, order_with}
+use Rattle.edited_files.proofs.OrderLemmas.{before-apart, order_with}
 
 -- ---- what a path holds once edits are put
 

@@ -1,11 +1,12 @@
 -- What is so of lists, and of the first element of each of their items, along a cut that is made of them.
-use Rattle.std.proofs.Common.{◌≡◌, ◌≤◌, ℕ, ◌+◌, ◌-◌, Bool, true, false, cond, List, [], ◌∷◌, refl, ap, sym, subst, ◌∙◌, arith}
+use Rattle.std.proofs.Common.{◌≡◌, ◌≤◌, ℕ, ◌+◌, ◌-◌, Bool, true, false, cond, List, [], ◌∷◌, refl, sym, subst, arith}
 use Rattle.std.specs.Prelude.{nat_le, ◌==◌, ◌&&◌, ◌||◌}
-use Rattle.std.proofs.lemmas.Bool.{leb-true, leb-false, le-leb, eqb-true, and_parts}
+use Rattle.std.proofs.lemmas.Bool.{leb-true, leb-false, eqb-true, and_parts}
 use Rattle.list_cuts.specs.Cuts.{Cut, done, keep, list, Items, ended, item, span_of, extent_of}
 use Rattle.list_cuts.specs.CutOf.{front, back, is_between, is_free, cut_items, rest_of, cut_of, holds_items, are_nested}
 use Rattle.list_cuts.specs.Spans.{end_of}
 use Rattle.list_cuts.specs.declared.spans.Span.{Span}
+use Rattle.list_cuts.proofs.CutOfLemmas.{free-between as free_between}
 use Rattle.edited_unit_laws.specs.Texts.{begin_of, close_of, AreSpans}
 
 module _ (P : ℕ → ℕ → Type 0) (Q : ℕ → Type 0) where
@@ -82,28 +83,6 @@ fits_back most from b (list is c) h le fits = by (nat_le (span_of is) b) refl h 
         let deep = later e (omega (arith, small, le)) (omega (arith, fits)) in
         omega (arith, small, deep)
     by false is_ e later = let none = eqb-true b 0 e in omega (arith, none, fits)
-
-between_none : (c : Cut) → is_between 0 c ≡ true
-unfolding is_between
-between_none done = refl
-between_none (keep k c) = ap (λ (x : Bool). x || is_between (0 - k) c) (le-leb 0 k (omega arith))
-between_none (list is c) = by (nat_le (span_of is) 0) (let none : 0 - span_of is ≡ 0 = omega arith in ap (λ (i : ℕ). is_between i c) none ∙ between_none c)
-  where
-    by : (x : Bool) → is_between (0 - span_of is) c ≡ true → cond x (is_between (0 - span_of is) c) (0 == 0) ≡ true
-    by true e = e
-    by false e = refl
-
-free_between : (n : ℕ) (c : Cut) → is_free n c ≡ true → is_between n c ≡ true
-unfolding is_free is_between
-free_between n done h = refl
-free_between n (keep k c) h = by (nat_le n k) h (λ e. free_between (n - k) c e)
-  where
-    by : (x : Bool) → (x || is_free (n - k) c) ≡ true → (is_free (n - k) c ≡ true → is_between (n - k) c ≡ true) → (x || is_between (n - k) c) ≡ true
-    by true e later = refl
-    by false e later = later e
-free_between n (list is c) h =
-    let none : n ≡ 0 = eqb-true n 0 h in
-    ap (λ (i : ℕ). is_between i (list is c)) none ∙ between_none (list is c)
 
 -- ---- lists
 

@@ -5,12 +5,14 @@ use Rattle.std.specs.List.{flat_map}
 use Rattle.std.specs.Str.{bytes_eq}
 use Rattle.std.proofs.lemmas.Option.{same_Some}
 use Rattle.cs_base.specs.declared.ws_units.Standard.{Standard}
-use Rattle.cs_base.specs.Answer.{result_then, result_map_err}
+use Rattle.cs_base.specs.Answer.{result_then}
 use Rattle.cs_base.specs.Token.{Token}
 use Rattle.cs_base.specs.Units.{UnitValue, defines_of}
 use Rattle.lexer.specs.FileText.{file_text}
 use Rattle.std.specs.Fmt.{decimal}
 use Rattle.cs_base.specs.declared.positions.Pos.{Pos}
+use Rattle.cs_base.proofs.OptionLemmas.{ok_same}
+use Rattle.cs_base.proofs.AnswerLemmas.{map_err_ok as unmapped}
 use Rattle.lexer.specs.Characters.{is_word}
 use Rattle.lexer.specs.Places.{pos}
 use Rattle.macro_body.specs.Substitution.{line_number, digit_origins}
@@ -95,13 +97,10 @@ unit_grown limits reader source number unit before =
     (λ toks t g. onward_done (Stays {A = List Token} J) (Stays {A = List Token} J) (main_file ctx unit.path t) _ (main_grown before.table ctx unit.path t g)
     (λ more u f. f))
 
-pub ok_same : {X E : Type 0} (a b : X) → ◌≡◌ {A = Result X E} (Ok a) (Ok b) → a ≡ b
-ok_same a b e = cc
-
 grown_by : (before : Carried) (o : Outcome (List Token)) (p : Preprocessed) → IfDone (Stays {A = List Token} (IsGrown before.table)) o
     → preprocessed_by before.toks o ≡ Ok p → IsGrown before.table p.after.table
 grown_by before (Ok d) p h e =
-    let same = ok_same {E = Fault} _ p e in
+    let same = ok_same {D = Fault} _ p e in
     let P : Preprocessed → Type 0 = λ q. IsGrown before.table q.after.table in
     subst P same h
 grown_by before (Err found) p h e = absurd (cc)
@@ -118,10 +117,6 @@ pub done_first : {X Y E : Type 0} (r : Result X E) (next : X → Result Y E) (y 
 done_first (Ok x) next y e = (x, refl, e)
 done_first (Err fault) next y e = absurd (cc)
 
-pub unmapped : {X E F : Type 0} (r : Result X E) (change : E → F) (x : X) → result_map_err change r ≡ Ok x → r ≡ Ok x
-unmapped (Ok y) change x e = let same : y ≡ x = cc in rw same refl
-unmapped (Err fault) change x e = absurd (cc)
-
 -- What preprocessing gave a unit of an analysis.
 pub record IsUnit (table : Table) (u : UnitAnalysis) : Type 0 where
   pub source : Source
@@ -137,13 +132,13 @@ pub bound_text : (standard : Standard) (table : Table) (path : List ℕ) (text :
 bound_text standard table path text u e =
     let r = done_first {E = Fault} _ (bound_unit standard table path text) u e in
     let b = done_first {E = Fault} _ (λ bound. Ok (unit_analysis standard text r.0 bound)) u r.2 in
-    ap (λ (v : UnitAnalysis). v.text) (ok_same {E = Fault} (unit_analysis standard text r.0 b.0) u b.2)
+    ap (λ (v : UnitAnalysis). v.text) (ok_same {D = Fault} (unit_analysis standard text r.0 b.0) u b.2)
 
 pub units_are : (source : Source) (number : ℕ) (units : List UnitValue) (before : Carried) (v : UnitsValue)
     → analysed_from source number units before ≡ Ok v → IsGrown before.table v.table × ((u : UnitAnalysis) → In u v.units → IsUnit v.table u)
 unfolding analysed_from
 units_are source number [] before v e =
-    let same = ok_same {E = UnitFault} _ v e in
+    let same = ok_same {D = UnitFault} _ v e in
     let P : UnitsValue → Type 0 = λ w. IsGrown before.table w.table × ((u : UnitAnalysis) → In u w.units → IsUnit w.table u) in
     subst P same (grown_refl before.table, λ u i. absurd (let at = i.1 in cc))
 units_are source number (unit ∷ units) before v e =
@@ -164,7 +159,7 @@ units_are source number (unit ∷ units) before v e =
       own = bound_text unit.standard p.0.after.table unit.path p.0.text u.0 is_read;
       grown = rest.0;
     } in
-    let same = ok_same {E = UnitFault} (with_unit u.0 later.0) v later.2 in
+    let same = ok_same {D = UnitFault} (with_unit u.0 later.0) v later.2 in
     let P : UnitsValue → Type 0 = λ w. IsGrown before.table w.table × ((x : UnitAnalysis) → In x w.units → IsUnit w.table x) in
     subst P same (
       grown_trans before.table p.0.after.table later.0.table grows rest.0,
@@ -179,7 +174,7 @@ units_are source number (unit ∷ units) before v e =
 pub unit_is : (source : Source) (ws : WorkspaceValue) (a : AnalysisValue) → analysis_of source ws ≡ Ok a → (u : UnitAnalysis) → In u a.units → IsUnit a.table u
 unit_is source ws a e =
     let all = done_first (analysed_from source 1 ws.units nothing_carried) _ a e in
-    let same = ok_same {E = UnitFault} (analysis_and ws all.0.units all.0.table) a all.2 in
+    let same = ok_same {D = UnitFault} (analysis_and ws all.0.units all.0.table) a all.2 in
     let P : AnalysisValue → Type 0 = λ b. (u : UnitAnalysis) → In u b.units → IsUnit b.table u in
     subst P same (units_are source 1 ws.units nothing_carried all.0 all.1).1
 
@@ -199,14 +194,14 @@ first_path old (e ∷ new) h = ap (λ (p : List ℕ). Some p) h.0
 pub lines_first : (source : Source) (ws : WorkspaceValue) (a : AnalysisValue) → analysis_of source ws ≡ Ok a → slice_get (paths_in a.table) 0 ≡ Some lines_path
 lines_first source ws a e =
     let all = done_first (analysed_from source 1 ws.units nothing_carried) _ a e in
-    let same = ok_same {E = UnitFault} (analysis_and ws all.0.units all.0.table) a all.2 in
+    let same = ok_same {D = UnitFault} (analysis_and ws all.0.units all.0.table) a all.2 in
     let P : AnalysisValue → Type 0 = λ b. slice_get (paths_in b.table) 0 ≡ Some lines_path in
     subst P same (first_path [] all.0.table (units_are source 1 ws.units nothing_carried all.0 all.1).0)
 
 pub no_lines : (source : Source) (ws : WorkspaceValue) (a : AnalysisValue) → analysis_of source ws ≡ Ok a → kept_at a.table 0 ≡ None
 no_lines source ws a e =
     let all = done_first (analysed_from source 1 ws.units nothing_carried) _ a e in
-    let same = ok_same {E = UnitFault} (analysis_and ws all.0.units all.0.table) a all.2 in
+    let same = ok_same {D = UnitFault} (analysis_and ws all.0.units all.0.table) a all.2 in
     let P : AnalysisValue → Type 0 = λ b. kept_at b.table 0 ≡ None in
     subst P same (first_none [] all.0.table (units_are source 1 ws.units nothing_carried all.0 all.1).0)
 

@@ -1,7 +1,8 @@
 -- An analysis is the texts of its units, each read and bound; so that of the edited files is the renamed one.
-use Rattle.std.proofs.Common.{◌≡◌, ℕ, ◌+◌, List, [], ◌∷◌, map, Result, Ok, Err, refl, ap, sym, subst, ◌∙◌}
+use Rattle.std.proofs.Common.{◌≡◌, ℕ, ◌+◌, List, [], ◌∷◌, map, Result, Ok, refl, ap, sym, subst, ◌∙◌}
 use Rattle.cs_base.specs.declared.ws_units.Standard.{Standard}
 use Rattle.cs_base.specs.Answer.{result_then, result_map_err}
+use Rattle.cs_base.proofs.AnswerLemmas.{unmapped}
 use Rattle.macro_expand.specs.Renaming.{Renaming}
 use Rattle.source_files.specs.Faults.{Fault}
 use Rattle.source_files.specs.Files.{Table, nothing_carried}
@@ -25,10 +26,6 @@ use Rattle.edited_unit_laws.proofs.WorkspaceLemmas.{workspaces_are_renamed, then
 use Rattle.edited_unit_laws.specs.Analyses.{IsRead, AreOfStandards, AnalysesHaveTexts, TextsHaveAnalyses, renamed_unit_analysis, renamed_units, renamed_analysis, ReadsAlike, UnitAnalysesAreRenamed, WorkspaceAnalysisIsRenamed}
 use Rattle.analysis.specs.Changed.{texts_in}
 use Rattle.edited_unit_laws.proofs.AloneLemmas.{ok-same}
-
-unmapped : {X E F : Type 0} (change : E → F) (r : Result X E) (x : X) → result_map_err change r ≡ Ok x → r ≡ Ok x
-unmapped change (Ok y) x e = let same : y ≡ x = cc in rw same refl
-unmapped change (Err fault) x e = absurd cc
 
 -- ---- one unit
 

@@ -18,10 +18,10 @@ use Rattle.macro_expand.specs.Renaming.{renamed}
 use Rattle.source_files.specs.Faults.{fault_at}
 use Rattle.source_files.specs.Files.{SourceFile}
 use Rattle.unit_steps.specs.Notes.{Note, Tested, Left, Answered}
-use Rattle.unit_steps.specs.State.{State, Did, did, onward}
+use Rattle.unit_steps.specs.State.{State, Did, did}
 use Rattle.unit_steps.specs.Names.{name_links, with_name}
 use Rattle.unit_steps.specs.Expanding.{expanded_in}
-use Rattle.unit_steps.specs.Conditions.{Piece, Plain, Asks, is_defined, in_parentheses, operand_of, onto_pieces, asks_with, pieces_from, answer_for, is_macro, test_notes, with_front, answered, left_name, left_over, valued, judged, asked_pieces, holds}
+use Rattle.unit_steps.specs.Conditions.{Piece, Plain, Asks, is_defined, in_parentheses, operand_of, onto_pieces, asks_with, pieces_from, answer_for, is_macro, test_notes, with_front, answered, left_name, left_over, valued, judged, asked_pieces, asked_toks, holds}
 use Rattle.source_files.specs.Tables.{IsGrown}
 use Rattle.source_files.proofs.TableLemmas.{grown_refl, grown_trans}
 use Rattle.edited_unit_laws.specs.Lines.{Each}
@@ -33,7 +33,7 @@ use Rattle.edited_unit_laws.specs.Renamed.{renamed_happening}
 use Rattle.edited_unit_laws.specs.Steps.{IsTaken, KeepsState, moved, GoesAlike, AreRenamed, IsSame, with_text, Grows}
 use Rattle.edited_unit_laws.proofs.DirectiveLemmas.{IsKnown, kept-tokens}
 use Rattle.edited_unit_laws.proofs.FitLemmas.{still-fits}
-use Rattle.edited_unit_laws.proofs.FollowLemmas.{each-split, each-more, onward-grows, alike-onward, alike-test}
+use Rattle.edited_unit_laws.proofs.FollowLemmas.{each-split, each-more, alike-onward, alike-test}
 use Rattle.edited_unit_laws.proofs.NameLemmas.{name-grows, name_links-renamed, with_name-renamed, with_name-kept, is_macro-same}
 use Rattle.edited_unit_laws.proofs.TextLemmas.{expanded-grows, expanded-alike}
 
@@ -108,15 +108,12 @@ valued-grows : (file : SourceFile) (at : Pos) (toks : List Token) (s : State) (r
 valued-grows file at toks s (Ok b) = left-grows toks s
 valued-grows file at toks s (Err found) = tt
 
-judged-grows : (file : SourceFile) (at : Pos) (toks : List Token) (s : State) → Grows s (judged file at toks s)
+pub judged-grows : (file : SourceFile) (at : Pos) (toks : List Token) (s : State) → Grows s (judged file at toks s)
 judged-grows file at toks s = by (list_any is_defined toks)
   where
     by : (b : Bool) → Grows s (cond b (Err (fault_at file at DefinedFromMacro)) (valued file at toks s (condition toks)))
     by true = tt
     by false = valued-grows file at toks s (condition toks)
-
-expanded_judged-grows : (file : SourceFile) (at : Pos) (toks : List Token) (s : State) → Grows s (onward (expanded_in false file toks s) (judged file at))
-expanded_judged-grows file at toks s = onward-grows s (expanded_in false file toks s) (judged file at) (expanded-grows false file toks s) (judged-grows file at)
 
 -- What is answered over the edited files: the renamed tokens, each of which fits.
 record Answers (c : Change) (macros : Macros) (d new : Did (List Token)) : Type 0 where
@@ -136,7 +133,7 @@ left_with name before links d = did tt (Left name before ∷ links ++ d.notes) d
 module _ (c : Change) (names : KeepsNames c) where
   -- ---- operands are answered
 
-  answer-renamed : (word : Token) (b : Bool) → answer_for (renamed c.renaming word) b ≡ renamed c.renaming (answer_for word b)
+  pub answer-renamed : (word : Token) (b : Bool) → answer_for (renamed c.renaming word) b ≡ renamed c.renaming (answer_for word b)
   answer-renamed word true =
       let same = names.numbers 8 1 (codes "1") in
       sym (rw (same.0, same.1) refl)
@@ -144,7 +141,7 @@ module _ (c : Change) (names : KeepsNames c) where
       let same = names.numbers 0 1 (codes "0") in
       sym (rw (same.0, same.1) refl)
 
-  answer-fits : (word : Token) (b : Bool) → Fits c (answer_for word b)
+  pub answer-fits : (word : Token) (b : Bool) → Fits c (answer_for word b)
   answer-fits word true = still-fits c names (answer_for word true) Number refl refl (names.others Number (answer_for word true).origins (codes "1") refl refl) (names.numbers 8 1 (codes "1")).0
   answer-fits word false = still-fits c names (answer_for word false) Number refl refl (names.others Number (answer_for word false).origins (codes "0") refl refl) (names.numbers 0 1 (codes "0")).0
 
@@ -225,7 +222,7 @@ module _ (c : Change) (names : KeepsNames c) where
   defined-same : (toks : List Token) → Each (Fits c) toks → list_any is_defined (map (renamed c.renaming) toks) ≡ list_any is_defined toks
   defined-same toks h = any-kept c.renaming is_defined toks (each-more (Fits c) (λ t. is_defined (renamed c.renaming t) ≡ is_defined t) toks (λ t k. k.1.asks) h)
 
-  judged-alike : (file new : SourceFile) (at at2 : Pos) (toks : List Token) (macros : Macros) (s : State) → Each (Fits c) toks
+  pub judged-alike : (file new : SourceFile) (at at2 : Pos) (toks : List Token) (macros : Macros) (s : State) → Each (Fits c) toks
       → GoesAlike c (IsSame {A = Bool}) macros s (judged file at toks s) (judged new at2 (map (renamed c.renaming) toks) (moved c macros s))
   judged-alike file new at at2 toks macros s h =
       rw (defined-same toks h, conditions_stay c.renaming toks (kept-tokens c toks h))
@@ -233,29 +230,27 @@ module _ (c : Change) (names : KeepsNames c) where
       (valued file at toks s (condition toks)) (valued new at2 (map (renamed c.renaming) toks) (moved c macros s) (condition toks))
       (valued-alike file new at at2 toks macros s (condition toks) h))
 
-  expanded-judged : (file : SourceFile) (text : TextValue) (at at2 : Pos) (toks : List Token) (macros : Macros) (s : State) → Each (Fits c) toks
-      → GoesAlike c (IsSame {A = Bool}) macros s (onward (expanded_in false file toks s) (judged file at))
-      (onward (expanded_in false (with_text file text) (map (renamed c.renaming) toks) (moved c macros s)) (judged (with_text file text) at2))
-  expanded-judged file text at at2 toks macros s h =
-      alike-onward c (AreRenamed c) (IsSame {A = Bool}) macros s (expanded_in false file toks s) (expanded_in false (with_text file text) (map (renamed c.renaming) toks) (moved c macros s))
-      (judged file at) (judged (with_text file text) at2) (judged-grows file at) (expanded-alike c names false file text toks macros s h)
-      (λ out new t macros2 v.
-      subst (λ (ts : List Token). GoesAlike c (IsSame {A = Bool}) macros2 t (judged file at out t) (judged (with_text file text) at2 ts (moved c macros2 t))) (sym v.0)
-      (judged-alike file (with_text file text) at at2 out macros2 t v.1))
-
-  asked-alike : (file : SourceFile) (text : TextValue) (at at2 : Pos) (macros : Macros) (s : State) (o : Option (List Piece)) → ((ps : List Piece) → o ≡ Some ps → Each (PieceGoes c) ps)
-      → GoesAlike c (IsSame {A = Bool}) macros s (asked_pieces file at s o) (asked_pieces (with_text file text) at2 (moved c macros s) (option_map (map (renamed_piece c.renaming)) o))
-  asked-alike file text at at2 macros s None h = tt
-  asked-alike file text at at2 macros s (Some pieces) h =
-      alike-onward c (AreRenamed c) (IsSame {A = Bool}) macros s (Ok (answered pieces s)) (Ok (answered (map (renamed_piece c.renaming) pieces) (moved c macros s)))
-      (λ toks t. onward (expanded_in false file toks t) (judged file at)) (λ toks t. onward (expanded_in false (with_text file text) toks t) (judged (with_text file text) at2))
-      (expanded_judged-grows file at) (answered-step pieces macros s (h pieces refl))
+  asked_pieces-alike : (file : SourceFile) (text : TextValue) (at at2 : Pos) (macros : Macros) (s : State) (o : Option (List Piece)) → ((ps : List Piece) → o ≡ Some ps → Each (PieceGoes c) ps)
+      → GoesAlike c (AreRenamed c) macros s (asked_pieces file at s o) (asked_pieces (with_text file text) at2 (moved c macros s) (option_map (map (renamed_piece c.renaming)) o))
+  asked_pieces-alike file text at at2 macros s None h = tt
+  asked_pieces-alike file text at at2 macros s (Some pieces) h =
+      alike-onward c (AreRenamed c) (AreRenamed c) macros s (Ok (answered pieces s)) (Ok (answered (map (renamed_piece c.renaming) pieces) (moved c macros s)))
+      (expanded_in false file) (expanded_in false (with_text file text)) (expanded-grows false file) (answered-step pieces macros s (h pieces refl))
       (λ toks new t macros2 v.
-      subst (λ (ts : List Token). GoesAlike c (IsSame {A = Bool}) macros2 t (onward (expanded_in false file toks t) (judged file at)) (onward (expanded_in false (with_text file text) ts (moved c macros2 t)) (judged (with_text file text) at2))) (sym v.0)
-      (expanded-judged file text at at2 toks macros2 t v.1))
+      subst (λ (ts : List Token). GoesAlike c (AreRenamed c) macros2 t (expanded_in false file toks t) (expanded_in false (with_text file text) ts (moved c macros2 t))) (sym v.0)
+      (expanded-alike c names false file text toks macros2 t v.1))
+
+  pub asked-alike : (file : SourceFile) (text : TextValue) (at at2 : Pos) (toks : List Token) (macros : Macros) (s : State) → Each (Fits c) toks
+      → GoesAlike c (AreRenamed c) macros s (asked_toks file at toks s) (asked_toks (with_text file text) at2 (map (renamed c.renaming) toks) (moved c macros s))
+  asked-alike file text at at2 toks macros s h =
+      rw (operands_are_renamed c.renaming 0 toks (kept-tokens c toks h))
+      (asked_pieces-alike file text at at2 macros s (pieces_from 0 toks) (λ ps e. pieces-go c 0 toks ps h e))
 
   pub holds-alike : (file : SourceFile) (text : TextValue) (at at2 : Pos) (toks : List Token) (macros : Macros) (s : State) → Each (Fits c) toks
       → GoesAlike c (IsSame {A = Bool}) macros s (holds file at toks s) (holds (with_text file text) at2 (map (renamed c.renaming) toks) (moved c macros s))
   holds-alike file text at at2 toks macros s h =
-      rw (operands_are_renamed c.renaming 0 toks (kept-tokens c toks h))
-      (asked-alike file text at at2 macros s (pieces_from 0 toks) (λ ps e. pieces-go c 0 toks ps h e))
+      alike-onward c (AreRenamed c) (IsSame {A = Bool}) macros s (asked_toks file at toks s) (asked_toks (with_text file text) at2 (map (renamed c.renaming) toks) (moved c macros s))
+      (judged file at) (judged (with_text file text) at2) (judged-grows file at) (asked-alike file text at at2 toks macros s h)
+      (λ out new t macros2 v.
+      subst (λ (ts : List Token). GoesAlike c (IsSame {A = Bool}) macros2 t (judged file at out t) (judged (with_text file text) at2 ts (moved c macros2 t))) (sym v.0)
+      (judged-alike file (with_text file text) at at2 out macros2 t v.1))

@@ -1,7 +1,6 @@
 -- Where no unit is of GNU C, each is read and bound by the edition of ISO/IEC 9899 that its standard follows.
-use Rattle.std.proofs.Common.{◌≡◌, ℕ, zero, suc, ◌+◌, Bool, true, false, if◌then◌else◌, List, [], ◌∷◌, Option, Some, None, Ok, refl, sym, subst, ◌∙◌}
+use Rattle.std.proofs.Common.{◌≡◌, ℕ, zero, suc, ◌+◌, Bool, true, false, if◌then◌else◌, List, [], ◌∷◌, Some, None, Ok, refl, sym, subst, ◌∙◌}
 use Rattle.std.specs.Prelude.{slice_get}
-use Rattle.std.specs.List.{flat_map}
 use Rattle.std.specs.Option.{option_map_or}
 use Rattle.std.proofs.lemmas.Bool.{false≢true}
 use Rattle.std.proofs.lemmas.Option.{same_Some}
@@ -10,6 +9,8 @@ use Rattle.cs_base.specs.declared.ws_units.Standard.{Standard}
 use Rattle.cs_base.specs.declared.ws_units.Standard.TheVariants.{C99, C11, Gnu99, Gnu11}
 use Rattle.cs_base.specs.Token.{Token}
 use Rattle.cs_base.specs.Units.{UnitValue, is_gnu}
+use Rattle.cs_base.proofs.OptionLemmas.{ok_same}
+use Rattle.cs_base.proofs.AnswerLemmas.{map_err_ok as unmapped}
 use Rattle.ws_file.specs.Workspace.{WorkspaceValue}
 use Rattle.source_files.specs.Faults.{Fault}
 use Rattle.source_files.specs.Files.{Source, Table, Carried, nothing_carried}
@@ -25,7 +26,7 @@ use Rattle.analysis.specs.Texts.{UnitFault, unit_fault, unit_with}
 use Rattle.analysis.specs.GnuUnits.{begin_of, gnu_place, gnu_places}
 use Rattle.edited_unit_laws.specs.Analyses.{IsRead}
 use Rattle.edited_unit_laws.proofs.ListLemmas.{In, cons_nil, flat_nil}
-use Rattle.edited_unit_laws.proofs.AnalysedUnitLemmas.{ok_same, done_first, unmapped}
+use Rattle.edited_unit_laws.proofs.AnalysedUnitLemmas.{done_first}
 
 pub reads_by_edition : (s : Standard) (toks : List Token) → is_gnu s ≡ false → read_of (grammar (dialect s)) toks ≡ read_of (iso (edition s)) toks
 reads_by_edition C99 toks h = refl
@@ -58,13 +59,13 @@ one_read standard table path text u e =
       reads = unmapped (read_of (grammar (dialect standard)) text.toks) _ r.0 r.1;
       binds = unmapped (binding_by standard text.toks r.0) _ b.0 b.1;
     } in
-    subst IsRead (ok_same {E = Fault} (unit_analysis standard text r.0 b.0) u b.2) own
+    subst IsRead (ok_same {D = Fault} (unit_analysis standard text r.0 b.0) u b.2) own
 
 units_read : (source : Source) (number : ℕ) (units : List UnitValue) (before : Carried) (v : UnitsValue)
     → analysed_from source number units before ≡ Ok v → (u : UnitAnalysis) → In u v.units → IsRead u
 unfolding analysed_from
 units_read source number [] before v e =
-    let same = ok_same {E = UnitFault} _ v e in
+    let same = ok_same {D = UnitFault} _ v e in
     let P : UnitsValue → Type 0 = λ w. (u : UnitAnalysis) → In u w.units → IsRead u in
     subst P same (λ u i. absurd (let at = i.1 in cc))
 units_read source number (unit ∷ units) before v e =
@@ -73,7 +74,7 @@ units_read source number (unit ∷ units) before v e =
     let later = done_first (analysed_from source (number + 1) units p.0.after) _ v u.2 in
     let first = one_read unit.standard p.0.after.table unit.path p.0.text u.0 (unmapped (read_unit unit.standard p.0.after.table unit.path p.0.text) (unit_fault number) u.0 u.1) in
     let rest = units_read source (number + 1) units p.0.after later.0 later.1 in
-    let same = ok_same {E = UnitFault} (with_unit u.0 later.0) v later.2 in
+    let same = ok_same {D = UnitFault} (with_unit u.0 later.0) v later.2 in
     let P : UnitsValue → Type 0 = λ w. (x : UnitAnalysis) → In x w.units → IsRead x in
     subst P same (λ x i. first_or u.0 later.0.units x i.0 i.1 first rest)
   where
@@ -85,7 +86,7 @@ units_read source number (unit ∷ units) before v e =
 pub unit_is_read : (source : Source) (ws : WorkspaceValue) (a : AnalysisValue) → analysis_of source ws ≡ Ok a → (u : UnitAnalysis) → In u a.units → IsRead u
 unit_is_read source ws a e =
     let all = done_first (analysed_from source 1 ws.units nothing_carried) _ a e in
-    let same = ok_same {E = UnitFault} (analysis_and ws all.0.units all.0.table) a all.2 in
+    let same = ok_same {D = UnitFault} (analysis_and ws all.0.units all.0.table) a all.2 in
     let P : AnalysisValue → Type 0 = λ b. (u : UnitAnalysis) → In u b.units → IsRead u in
     subst P same (units_read source 1 ws.units nothing_carried all.0 all.1)
 

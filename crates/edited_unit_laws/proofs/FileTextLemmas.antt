@@ -6,17 +6,19 @@ use Rattle.cs_base.specs.Token.{Token}
 use Rattle.line_shape.specs.declared.items.Item.{Item}
 use Rattle.line_shape.specs.Items.{items_of, items_from}
 use Rattle.lexer.specs.Tokens.{tokens_of, firsts_of}
+use Rattle.lexer.proofs.ScanLemmas.{firsts_of-each as file_firsts}
+use Rattle.lexer.proofs.TextLemmas.{file_text-firsts as text_firsts, file_text-toks as text_toks}
 use Rattle.arranged_text_laws.specs.FileItems.{placed, FileItemsStay}
 use Rattle.arranged_text_laws.specs.Runs.{Placed, toks_of, firsts_of as firsts_in}
 use Rattle.arranged_text_laws.specs.Arranging.{place_in, line_in}
 use Rattle.arranged_text_laws.specs.Tokens.{cut_in, token_there, without_gap}
-use Rattle.arranged_text_laws.proofs.FileItemLemmas.{length-masked, toks_placed, firsts_placed, file_firsts}
+use Rattle.arranged_text_laws.proofs.FileItemLemmas.{length-masked, toks_placed, firsts_placed}
 use Rattle.arranged_text_laws.proofs.RunLemmas.{all_pieces}
 use Rattle.list_cuts.specs.Cuts.{Cut, arranged}
 use Rattle.expansion_laws.specs.Arranging.{in_lists}
 use Rattle.unit_laws.specs.Files.{StandsFor, items_at}
 use Rattle.unit_laws.specs.Walking.{IsOf}
-use Rattle.unit_laws.proofs.ReorderedFileLemmas.{text_toks, text_firsts, items_follow}
+use Rattle.unit_laws.proofs.ReorderedFileLemmas.{items_follow}
 use Rattle.unit_laws.proofs.ReorderedPartLemmas.{no_list_between}
 use Rattle.edited_unit_laws.specs.Texts.{TextsStand}
 use Rattle.edited_unit_laws.proofs.BoundLemmas.{ItemApart, AreApart, items_apart, free_part}

@@ -2,9 +2,9 @@
 use Rattle.std.proofs.Common.{◌≡◌, ℕ, zero, suc, ◌+◌, Bool, true, List, [], ◌∷◌, ◌++◌, length, ◌-◌, refl, sym, subst, ◌∙◌}
 use Rattle.lexer.specs.Logical.{Character, spelling, line_at, logical_of}
 use Rattle.lexer.specs.Tokens.{Found, FoundToken, FoundOpen, is_line_start, piece_of, piece_length, leaves_gap, line_front_after, expects_header, found_in, found_from, found_of, firsts_in, firsts_of}
+use Rattle.lexer.proofs.ScanLemmas.{firsts_of-file as firsts_of_file}
 use Rattle.arranged_text_laws.specs.Marks.{file_front, line_start}
 use Rattle.arranged_text_laws.specs.Settling.{Front}
-use Rattle.arranged_text_laws.proofs.TokenLaw.{firsts_of_file}
 use Rattle.arranged_text_laws.proofs.ViewLemmas.{View, feeds, whites, lines, blocks, opens, spells, view}
 
 -- the first token that is found is the first of its line

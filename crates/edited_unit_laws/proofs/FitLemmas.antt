@@ -58,30 +58,45 @@ word-none : (n x y : Bool) → n ≡ false → (n && x) ≡ (n && y)
 word-none true x y is = absurd (cc)
 word-none false x y is = refl
 
+-- the words that directives and conditions know
+abbrev known_words : List (List ℕ)
+known_words = codes "defined" ∷ codes "__VA_ARGS__" ∷ codes "__VA_OPT__" ∷ codes "__has_include" ∷ codes "__has_include_next" ∷ []
+
+-- it is this word exactly where it was
+abbrev keeps_word : Renaming → List (Option Pos) → List ℕ → List ℕ → Bool
+keeps_word r origins text word = same (bytes_eq (r.spell origins text) word) (bytes_eq text word)
+
 -- the new spelling keeps what directives mean
 unfoldable pub keeps_text : Renaming → Occurring
-keeps_text r kind origins text = cond (is_identifier kind)
-    (same (bytes_eq (r.spell origins text) (codes "defined")) (bytes_eq text (codes "defined"))
-    && same (bytes_eq (r.spell origins text) (codes "__VA_ARGS__")) (bytes_eq text (codes "__VA_ARGS__"))
-    && same (bytes_eq (r.spell origins text) (codes "__VA_OPT__")) (bytes_eq text (codes "__VA_OPT__")))
-    (cond (is_fixed kind) (bytes_eq (r.spell origins text) text) true)
+keeps_text r kind origins text =
+    cond (is_identifier kind) (list_all (keeps_word r origins text) known_words) (cond (is_fixed kind) (bytes_eq (r.spell origins text) text) true)
 
 -- the token occurs, and its new spelling does
 unfoldable pub fits : Change → Occurring
 fits c kind origins text = c.occurring kind origins text && keeps_text c.renaming kind origins text
 
--- the same of the three words, and of what is no identifier
-keeps-name : (n a b d e f g other : Bool) → n ≡ true → a ≡ b → d ≡ e → f ≡ g → cond n (same a b && same d e && same f g) other ≡ true
-keeps-name true a b d e f g other is h k l =
-    and_from (same a b && same d e) (same f g) (and_from (same a b) (same d e) (same-of a b h) (same-of d e k)) (same-of f g l)
-keeps-name false a b d e f g other is h k l = absurd (cc)
+-- the same of the words, and of what is no identifier
+abbrev WordKept : Renaming → Token → List ℕ → Type 0
+WordKept r t word = bytes_eq (spelled r t) word ≡ bytes_eq t.text word
 
-name-keeps : (n a b d e f g other : Bool) → n ≡ true → cond n (same a b && same d e && same f g) other ≡ true → (a ≡ b) × (d ≡ e) × (f ≡ g)
-name-keeps true a b d e f g other is h =
-    let k = and_parts (same a b && same d e) (same f g) h in
-    let l = and_parts (same a b) (same d e) k.0 in
-    (same-true a b l.0, same-true d e l.1, same-true f g k.1)
-name-keeps false a b d e f g other is h = absurd (cc)
+words-true : (r : Renaming) (t : Token) (words : List (List ℕ)) → Each (WordKept r t) words → list_all (keeps_word r t.origins t.text) words ≡ true
+words-true r t [] h = refl
+words-true r t (w ∷ words) h =
+    and_from (keeps_word r t.origins t.text w) (list_all (keeps_word r t.origins t.text) words) (same-of (bytes_eq (spelled r t) w) (bytes_eq t.text w) h.0) (words-true r t words h.1)
+
+true-words : (r : Renaming) (t : Token) (words : List (List ℕ)) → list_all (keeps_word r t.origins t.text) words ≡ true → Each (WordKept r t) words
+true-words r t [] h = tt
+true-words r t (w ∷ words) h =
+    let k = and_parts (keeps_word r t.origins t.text w) (list_all (keeps_word r t.origins t.text) words) h in
+    (same-true (bytes_eq (spelled r t) w) (bytes_eq t.text w) k.0, true-words r t words k.1)
+
+keeps-name : (n name other : Bool) → n ≡ true → name ≡ true → cond n name other ≡ true
+keeps-name true name other is h = h
+keeps-name false name other is h = absurd (cc)
+
+name-keeps : (n name other : Bool) → n ≡ true → cond n name other ≡ true → name ≡ true
+name-keeps true name other is h = h
+name-keeps false name other is h = absurd (cc)
 
 keeps-other : (n name other : Bool) → n ≡ false → other ≡ true → cond n name other ≡ true
 keeps-other true name other is h = absurd (cc)
@@ -113,19 +128,17 @@ keeps-true : (r : Renaming) (t : Token) → KeepsToken r t → keeps_text r t.ki
 unfolding keeps_text is_va_args
 keeps-true r t h = by (cases_Bool (is_identifier t.kind))
   where
+    stays : (word : List ℕ) → is_identifier t.kind ≡ true → (is_identifier t.kind && bytes_eq (spelled r t) word) ≡ (is_identifier t.kind && bytes_eq t.text word) → WordKept r t word
+    stays word name k = word-stays (is_identifier t.kind) (bytes_eq (spelled r t) word) (bytes_eq t.text word) name k
+
     by : (is_identifier t.kind ≡ true) ⊎ (is_identifier t.kind ≡ false) → keeps_text r t.kind t.origins t.text ≡ true
     by (inl name) =
-        keeps-name (is_identifier t.kind) (bytes_eq (spelled r t) (codes "defined")) (bytes_eq t.text (codes "defined")) (bytes_eq (spelled r t) (codes "__VA_ARGS__")) (bytes_eq t.text (codes "__VA_ARGS__"))
-        (bytes_eq (spelled r t) (codes "__VA_OPT__")) (bytes_eq t.text (codes "__VA_OPT__"))
-        (cond (is_fixed t.kind) (bytes_eq (spelled r t) t.text) true) name
-        (word-stays (is_identifier t.kind) (bytes_eq (spelled r t) (codes "defined")) (bytes_eq t.text (codes "defined")) name h.asks)
-        (word-stays (is_identifier t.kind) (bytes_eq (spelled r t) (codes "__VA_ARGS__")) (bytes_eq t.text (codes "__VA_ARGS__")) name h.rest)
-        (word-stays (is_identifier t.kind) (bytes_eq (spelled r t) (codes "__VA_OPT__")) (bytes_eq t.text (codes "__VA_OPT__")) name h.opts)
+        keeps-name (is_identifier t.kind) (list_all (keeps_word r t.origins t.text) known_words) (cond (is_fixed t.kind) (bytes_eq (spelled r t) t.text) true) name
+        (words-true r t known_words
+        (stays (codes "defined") name h.asks, (stays (codes "__VA_ARGS__") name h.rest, (stays (codes "__VA_OPT__") name h.opts,
+        (stays (codes "__has_include") name h.header, (stays (codes "__has_include_next") name h.next, tt))))))
     by (inr other) =
-        keeps-other (is_identifier t.kind)
-        (same (bytes_eq (spelled r t) (codes "defined")) (bytes_eq t.text (codes "defined")) && same (bytes_eq (spelled r t) (codes "__VA_ARGS__")) (bytes_eq t.text (codes "__VA_ARGS__"))
-        && same (bytes_eq (spelled r t) (codes "__VA_OPT__")) (bytes_eq t.text (codes "__VA_OPT__")))
-        (cond (is_fixed t.kind) (bytes_eq (spelled r t) t.text) true) other
+        keeps-other (is_identifier t.kind) (list_all (keeps_word r t.origins t.text) known_words) (cond (is_fixed t.kind) (bytes_eq (spelled r t) t.text) true) other
         (fixed-stays (is_fixed t.kind) (bytes_eq (spelled r t) t.text) (λ fixed. (bytes_eq-Decides (spelled r t) t.text).1 (h.others fixed)))
 
 true-keeps : (r : Renaming) (t : Token) → keeps_text r t.kind t.origins t.text ≡ true → KeepsToken r t
@@ -134,30 +147,25 @@ true-keeps r t h = record {
   others = λ fixed.
       (bytes_eq-Decides (spelled r t) t.text).0
       (stays-fixed (is_fixed t.kind) (bytes_eq (spelled r t) t.text) fixed
-      (other-keeps (is_identifier t.kind)
-      (same (bytes_eq (spelled r t) (codes "defined")) (bytes_eq t.text (codes "defined")) && same (bytes_eq (spelled r t) (codes "__VA_ARGS__")) (bytes_eq t.text (codes "__VA_ARGS__"))
-      && same (bytes_eq (spelled r t) (codes "__VA_OPT__")) (bytes_eq t.text (codes "__VA_OPT__")))
+      (other-keeps (is_identifier t.kind) (list_all (keeps_word r t.origins t.text) known_words)
       (cond (is_fixed t.kind) (bytes_eq (spelled r t) t.text) true) (fixed-other t.kind fixed) h));
-  asks = elim (cases_Bool (is_identifier t.kind)) [
-    | inl name ↦ word-back (is_identifier t.kind) (bytes_eq (spelled r t) (codes "defined")) (bytes_eq t.text (codes "defined")) (both name).0
-    | inr other ↦ word-none (is_identifier t.kind) (bytes_eq (spelled r t) (codes "defined")) (bytes_eq t.text (codes "defined")) other
-  ];
-  rest = elim (cases_Bool (is_identifier t.kind)) [
-    | inl name ↦ word-back (is_identifier t.kind) (bytes_eq (spelled r t) (codes "__VA_ARGS__")) (bytes_eq t.text (codes "__VA_ARGS__")) (both name).1
-    | inr other ↦ word-none (is_identifier t.kind) (bytes_eq (spelled r t) (codes "__VA_ARGS__")) (bytes_eq t.text (codes "__VA_ARGS__")) other
-  ];
-  opts = elim (cases_Bool (is_identifier t.kind)) [
-    | inl name ↦ word-back (is_identifier t.kind) (bytes_eq (spelled r t) (codes "__VA_OPT__")) (bytes_eq t.text (codes "__VA_OPT__")) (both name).2
-    | inr other ↦ word-none (is_identifier t.kind) (bytes_eq (spelled r t) (codes "__VA_OPT__")) (bytes_eq t.text (codes "__VA_OPT__")) other
-  ];
+  asks = back (codes "defined") (λ name. (all name).0);
+  rest = back (codes "__VA_ARGS__") (λ name. (all name).1.0);
+  opts = back (codes "__VA_OPT__") (λ name. (all name).1.1.0);
+  header = back (codes "__has_include") (λ name. (all name).1.1.1.0);
+  next = back (codes "__has_include_next") (λ name. (all name).1.1.1.1.0);
 }
   where
-    both : is_identifier t.kind ≡ true → (bytes_eq (spelled r t) (codes "defined") ≡ bytes_eq t.text (codes "defined")) × (bytes_eq (spelled r t) (codes "__VA_ARGS__") ≡ bytes_eq t.text (codes "__VA_ARGS__"))
-        × (bytes_eq (spelled r t) (codes "__VA_OPT__") ≡ bytes_eq t.text (codes "__VA_OPT__"))
-    both name =
-        name-keeps (is_identifier t.kind) (bytes_eq (spelled r t) (codes "defined")) (bytes_eq t.text (codes "defined")) (bytes_eq (spelled r t) (codes "__VA_ARGS__")) (bytes_eq t.text (codes "__VA_ARGS__"))
-        (bytes_eq (spelled r t) (codes "__VA_OPT__")) (bytes_eq t.text (codes "__VA_OPT__"))
-        (cond (is_fixed t.kind) (bytes_eq (spelled r t) t.text) true) name h
+    all : is_identifier t.kind ≡ true → Each (WordKept r t) known_words
+    all name =
+        true-words r t known_words
+        (name-keeps (is_identifier t.kind) (list_all (keeps_word r t.origins t.text) known_words) (cond (is_fixed t.kind) (bytes_eq (spelled r t) t.text) true) name h)
+
+    back : (word : List ℕ) → (is_identifier t.kind ≡ true → WordKept r t word) → (is_identifier t.kind && bytes_eq (spelled r t) word) ≡ (is_identifier t.kind && bytes_eq t.text word)
+    back word k = elim (cases_Bool (is_identifier t.kind)) [
+      | inl name ↦ word-back (is_identifier t.kind) (bytes_eq (spelled r t) word) (bytes_eq t.text word) (k name)
+      | inr other ↦ word-none (is_identifier t.kind) (bytes_eq (spelled r t) word) (bytes_eq t.text word) other
+    ]
 
 pub fits-true : (c : Change) (t : Token) → Fits c t → occurs (fits c) t ≡ true
 unfolding fits
@@ -179,7 +187,7 @@ pub still-fits : (c : Change) → KeepsNames c → (t : Token) (kind : Kind) →
 unfolding is_va_args
 still-fits c names t kind is other here stays = (
   rw is here,
-  record { others = λ text. stays; asks = rw (is, other) refl; rest = rw (is, other) refl; opts = rw (is, other) refl },
+  record { others = λ text. stays; asks = rw (is, other) refl; rest = rw (is, other) refl; opts = rw (is, other) refl; header = rw (is, other) refl; next = rw (is, other) refl },
 )
 
 -- a string literal fits, however it is spelled
@@ -187,7 +195,7 @@ quoted-fits : (c : Change) → KeepsNames c → (s : Token) → s.kind ≡ Str �
 unfolding is_va_args
 quoted-fits c names s is = (
   rw is (names.others Str s.origins s.text refl refl),
-  record { others = λ fixed. absurd (both_ways (is_fixed s.kind) (ap is_fixed is) fixed); asks = rw is refl; rest = rw is refl; opts = rw is refl },
+  record { others = λ fixed. absurd (both_ways (is_fixed s.kind) (ap is_fixed is) fixed); asks = rw is refl; rest = rw is refl; opts = rw is refl; header = rw is refl; next = rw is refl },
 )
 
 string-fits : (c : Change) → KeepsNames c → (toks : List Token) (s : Token) → IsStringized toks s → Fits c s

@@ -6,6 +6,7 @@ use Rattle.std.proofs.lemmas.Bool.{leb-true, leb-false}
 use Rattle.std.proofs.lemmas.List.{length-map, take-map, nil_from_length, drop-drop}
 use Rattle.std.proofs.Math.Seq.{take-add}
 use Rattle.cs_base.specs.Token.{Token}
+use Rattle.cs_base.proofs.BoolLemmas.{and_none}
 use Rattle.line_shape.specs.Signs.{is_hash}
 use Rattle.arranged_text_laws.specs.FileItems.{placed}
 use Rattle.arranged_text_laws.specs.Labels.{head_with, masked, masked_items}
@@ -14,6 +15,7 @@ use Rattle.arranged_text_laws.specs.Tokens.{not_first}
 use Rattle.arranged_text_laws.proofs.FileItemLemmas.{length-masked}
 use Rattle.arranged_text_laws.proofs.SeamLemmas.{masked_items_same}
 use Rattle.arranged_text_laws.proofs.TokenLaw.{masked_items-image}
+use Rattle.arranged_text_laws.proofs.SameSigns.{length_head}
 use Rattle.list_cuts.specs.Cuts.{Cut, done, keep, list, Items, ended, item, span_of}
 use Rattle.edited_unit_laws.proofs.AlongLemmas.{Along, ItemsAlong}
 
@@ -28,10 +30,6 @@ hashes_both H from (x ∷ xs) ys =
     let next : from + 1 + length xs ≡ from + suc (length xs) = omega arith in
     ap (λ (l : List Bool). (x && H from) ∷ l) (hashes_both H (from + 1) xs ys)
     ∙ ap (λ (i : ℕ). (x && H from) ∷ (hashes H (from + 1) xs ++ hashes H i ys)) next
-
-and_none : (b c : Bool) → c ≡ false → (b && c) ≡ false
-and_none true c h = h
-and_none false c h = refl
 
 -- the first of them may be unmarked where it is no `#`
 hashes_head : (H : ℕ → Bool) (from : ℕ) (xs : List Bool) → H from ≡ false → hashes H from (head_with not_first xs) ≡ hashes H from xs
@@ -48,10 +46,6 @@ take_none zero [] e = refl
 take_none zero (x ∷ xs) e = refl
 take_none (suc n) [] e = refl
 take_none (suc n) (x ∷ xs) e = absurd cc
-
-length_head : (xs : List Bool) → length (head_with not_first xs) ≡ length xs
-length_head [] = refl
-length_head (x ∷ xs) = refl
 
 length_items : (is : Items) (xs : List Bool) → length (masked_items not_first is xs) ≡ length (take (span_of is) xs)
 length_items is xs =

@@ -112,7 +112,7 @@ header-fixed Other h = refl
 header-fixed HeaderName h = refl
 
 module _ (c : Change) (names : KeepsNames c) where
-  header_or-alike : (file new : SourceFile) (at at2 : Pos) (toks : List Token) (macros : Macros) (s : State) (o : Option Header) → header_of_toks toks ≡ o
+  pub header_or-alike : (file new : SourceFile) (at at2 : Pos) (toks : List Token) (macros : Macros) (s : State) (o : Option Header) → header_of_toks toks ≡ o
       → GoesAlike c (IsSame {A = Header}) macros s (header_or file at toks s o) (header_or new at2 (map (renamed c.renaming) toks) (moved c macros s) (header_of_toks (map (renamed c.renaming) toks)))
   header_or-alike file new at at2 toks macros s None is = tt
   header_or-alike file new at at2 toks macros s (Some h) is = λ reach kept told. record {

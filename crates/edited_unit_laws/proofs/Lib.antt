@@ -34,6 +34,7 @@ mod DirectiveLemmas
 mod ConditionLemmas
 mod OpenLemmas
 mod IncludeLemmas
+mod AskingLemmas
 mod WalkLemmas
 mod StepLaws
 mod ReorderedTextLemmas
@@ -49,3 +50,4 @@ mod PathLemmas
 mod LooseLemmas
 mod BoundLemmas
 mod FileTextLemmas
+pub mod ApartLemmas

@@ -1,23 +1,16 @@
 -- What stands in lists, and lists that are empty.
-use Rattle.std.proofs.Common.{◌≡◌, ℕ, zero, suc, Bool, true, List, [], ◌∷◌, ◌++◌, map, None, Some, inl, inr, refl, sym, ap, ◌∙◌}
+use Rattle.std.proofs.Common.{◌≡◌, ℕ, zero, suc, Bool, true, List, [], ◌∷◌, ◌++◌, map, Some, inl, inr, refl, sym, ap, ◌∙◌}
 use Rattle.std.specs.Prelude.{slice_get, find}
-use Rattle.std.specs.List.{flat_map, list_any}
-use Rattle.std.proofs.lemmas.Bool.{cases_Bool, both_ways}
+use Rattle.std.specs.List.{flat_map}
+use Rattle.std.proofs.lemmas.Bool.{cases_Bool}
 use Rattle.std.proofs.lemmas.Option.{same_Some}
+use Rattle.cs_base.proofs.ListLemmas.{front_none as nil_left, nil_behind as nil_right}
 
 -- the list has the element
 abbrev pub In : {X : Type 0} → X → List X → Type 0
 In x xs = (k : ℕ) × (slice_get xs k ≡ Some x)
 
 -- ---- empty lists
-
-pub nil_left : {X : Type 0} (xs ys : List X) → xs ++ ys ≡ [] → xs ≡ []
-nil_left [] ys e = refl
-nil_left (x ∷ xs) ys e = absurd (cc)
-
-pub nil_right : {X : Type 0} (xs ys : List X) → xs ++ ys ≡ [] → ys ≡ []
-nil_right [] ys e = e
-nil_right (x ∷ xs) ys e = absurd (cc)
 
 pub map_nil : {X Y : Type 0} (f : X → Y) (xs : List X) → map f xs ≡ [] → xs ≡ []
 map_nil f [] e = refl
@@ -47,25 +40,6 @@ found {X = X} test (y ∷ xs) x e = elim (cases_Bool (test y)) [
       let later : find test xs ≡ Some x = rw fails at e in
       let r = found test xs x later in
       ((suc r.0.0, r.0.1), r.1)
-]
-
-pub not_found : {X : Type 0} (test : X → Bool) (xs : List X) (x : X) (k : ℕ) → find test xs ≡ None → slice_get xs k ≡ Some x → test x ≡ true → ⊥
-not_found test [] x k e at h = absurd (cc)
-not_found test (y ∷ xs) x zero e at h = elim (cases_Bool (test y)) [
-  | inl passes ↦ let here : Some y ≡ None = rw passes at e in absurd (cc)
-  | inr fails ↦ both_ways (test y) fails (ap test (same_Some y x at) ∙ h)
-]
-not_found test (y ∷ xs) x (suc k) e at h = elim (cases_Bool (test y)) [
-  | inl passes ↦ let here : Some y ≡ None = rw passes at e in absurd (cc)
-  | inr fails ↦ not_found test xs x k (rw fails at e) at h
-]
-
-pub any_at : {X : Type 0} (test : X → Bool) (xs : List X) (k : ℕ) (x : X) → slice_get xs k ≡ Some x → test x ≡ true → list_any test xs ≡ true
-any_at test [] k x e h = absurd (cc)
-any_at test (y ∷ xs) zero x e h = let here : test y ≡ true = ap test (same_Some y x e) ∙ h in rw here refl
-any_at test (y ∷ xs) (suc k) x e h = elim (cases_Bool (test y)) [
-  | inl passes ↦ rw passes refl
-  | inr fails ↦ rw fails (any_at test xs k x e h)
 ]
 
 -- ---- lists of lists

@@ -7,14 +7,16 @@ use Rattle.std.proofs.lemmas.List.{length-map, take-map, drop-map, drop-drop}
 use Rattle.cs_base.specs.Token.{Token}
 use Rattle.line_shape.specs.Signs.{is_hash}
 use Rattle.lexer.specs.Tokens.{tokens_of, firsts_of}
+use Rattle.lexer.proofs.ScanLemmas.{firsts_of-each as file_firsts}
 use Rattle.arranged_text_laws.specs.FileItems.{placed, FileRuns}
 use Rattle.arranged_text_laws.specs.Labels.{masked}
 use Rattle.arranged_text_laws.specs.Runs.{Placed, begins_directive, goes_on, text_behind, ListsInRuns}
 use Rattle.arranged_text_laws.specs.Tokens.{cut_in, token_there, without_gap, not_first}
-use Rattle.arranged_text_laws.proofs.FileItemLemmas.{length-masked, length-placed, file_firsts}
+use Rattle.arranged_text_laws.proofs.FileItemLemmas.{length-masked, length-placed}
 use Rattle.arranged_text_laws.proofs.RunLemmas.{same_text}
 use Rattle.arranged_text_laws.proofs.SeamLemmas.{masked_same}
 use Rattle.arranged_text_laws.proofs.TokenLaw.{masked-image}
+use Rattle.arranged_text_laws.proofs.FileRuns.{hash_there}
 use Rattle.list_cuts.specs.Cuts.{Cut, done, keep, list, span_of, extent_of}
 use Rattle.list_cuts.specs.CutOf.{cut_items, rest_of, back, cut_of}
 use Rattle.list_cuts.specs.declared.spans.Span.{Span}
@@ -104,11 +106,6 @@ spanned ts fs vs (l ∷ lists) even all =
 hash_image : (c : Cut) (xs : List Token) → map is_hash (masked without_gap c xs) ≡ map is_hash xs
 unfolding is_hash
 hash_image c xs = sym (masked-image without_gap (λ y. y) is_hash (λ x. refl) c xs) ∙ masked_same c (map is_hash xs)
-
-hash_there : (order : List ℕ) (c : Cut) (bytes : List ℕ) (xs : List Token) → map is_hash (map (token_there order c bytes) xs) ≡ map is_hash xs
-unfolding is_hash
-hash_there order c bytes [] = refl
-hash_there order c bytes (x ∷ xs) = ap (λ (l : List Bool). is_hash x ∷ l) (hash_there order c bytes xs)
 
 -- the first list begins behind the first token
 file_runs : (ts us : List Token) (fs gs : List Bool) (Q : ℕ → Type 0) (b : ℕ) (c : Cut) → 0 < b → ((first : Bool) (rest : List Bool) → fs ≡ first ∷ rest → first ≡ true)

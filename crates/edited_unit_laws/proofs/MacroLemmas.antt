@@ -3,7 +3,6 @@ use Rattle.std.proofs.Common.{◌≡◌, ℕ, true, false, List, Some, refl, ap,
 use Rattle.std.specs.Str.{bytes_eq}
 use Rattle.std.proofs.lemmas.Bool.{cases_Bool}
 use Rattle.std.proofs.lemmas.Option.{none-some, same_Some}
-use Rattle.std.proofs.lemmas.Slice.Eq.{bytes_eq-Decides}
 use Rattle.cs_base.specs.Token.{Token}
 use Rattle.line_shape.specs.Signs.{is_name}
 use Rattle.macro_body.specs.declared.definitions.Definition.{Definition}
@@ -11,11 +10,9 @@ use Rattle.macro_body.specs.Live.{with_macro, without_macro}
 use Rattle.macro_body.specs.Macro.{Table as Macros}
 use Rattle.macro_expand.specs.Renaming.{spelled, renamed_macro, occurs, KeepsBody, Keeps}
 use Rattle.cs_base.proofs.FileMapLemmas.{bytes_eq-equal}
+use Rattle.cs_base.proofs.ListLemmas.{spelled_same as alike}
 use Rattle.edited_unit_laws.specs.Keeping.{Change, KeepsNames}
 use Rattle.edited_unit_laws.specs.Steps.{IsTaken}
-
-alike : (a b : List ℕ) → a ≡ b → bytes_eq a b ≡ true
-alike a b h = (bytes_eq-Decides a b).1 h
 
 -- two texts are no one text where that is absurd
 unlike : (a b : List ℕ) → (a ≡ b → ⊥) → bytes_eq a b ≡ false

@@ -7,6 +7,7 @@ use Rattle.std.proofs.lemmas.List.{map-append}
 use Rattle.std.proofs.lemmas.Option.{slice_get-map}
 use Rattle.cs_base.specs.declared.positions.Pos.{Pos}
 use Rattle.cs_base.specs.Token.{Token, token, origin_at}
+use Rattle.cs_base.proofs.ListLemmas.{map-same as map_same}
 use Rattle.lexer.specs.Logical.{Character, spelling, line_at, logical_of}
 use Rattle.lexer.specs.Places.{pos, origins_from}
 use Rattle.lexer.specs.Front.{front_of}
@@ -112,10 +113,6 @@ span_same : (other : ℕ) (bytes : List ℕ) (ts : List Token) (s : Span) → it
 span_same other bytes ts s =
     ap (λ (k : ℕ). record { begin = k; end = option_map_or (end_byte bytes) (slice_get (map (numbered other) ts) (s.end - 1)) 0 }) (place_same other (first_byte bytes) ts s.begin (first_same other bytes))
     ∙ ap (λ (k : ℕ). record { begin = option_map_or (first_byte bytes) (slice_get ts s.begin) 0; end = k }) (place_same other (end_byte bytes) ts (s.end - 1) (end_same other bytes))
-
-map_same : {X Y : Type 0} (f g : X → Y) (xs : List X) → ((x : X) → f x ≡ g x) → map f xs ≡ map g xs
-map_same f g [] same = refl
-map_same f g (x ∷ xs) same = ap (λ (y : _). y ∷ map f xs) (same x) ∙ ap (λ (l : List _). g x ∷ l) (map_same f g xs same)
 
 pub spans_numbered : (file other : ℕ) (bytes : List ℕ) (lists : List (List Span)) → byte_lists other bytes lists ≡ byte_lists file bytes lists
 spans_numbered file other bytes lists =

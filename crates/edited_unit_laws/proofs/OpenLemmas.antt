@@ -1,6 +1,5 @@
 -- Searching and opening files, as they were and edited.
-use Rattle.std.proofs.Common.{◌≡◌, ℕ, zero, suc, ◌+◌, ◌≤◌, nat_le, nat_lt, ◌&&◌, Bool, true, false, not, cond, if◌then◌else◌, List, [], ◌∷◌, length, Option, Some, None, Result, Ok, Err, refl, ap, sym, subst, ◌∙◌, inl, inr, arith}
-use Rattle.std.specs.Prelude.{slice_get}
+use Rattle.std.proofs.Common.{◌≡◌, ℕ, ◌+◌, ◌≤◌, nat_le, nat_lt, ◌&&◌, Bool, true, false, not, cond, if◌then◌else◌, List, [], ◌∷◌, length, Option, Some, None, Result, Ok, Err, refl, ap, sym, subst, ◌∙◌, arith}
 use Rattle.std.specs.Option.{option_map, option_and_then}
 use Rattle.std.proofs.lemmas.Bool.{le-ltb}
 use Rattle.cs_base.specs.declared.causes.Cause.TheVariants.{TooManyFiles, TooManyBytes}
@@ -10,9 +9,9 @@ use Rattle.cs_base.specs.Units.{UnitValue}
 use Rattle.lexer.specs.FileText.{TextValue, LexFault, FileTooLarge, OpenComment, file_text}
 use Rattle.macro_body.specs.Macro.{Table as Macros}
 use Rattle.source_files.specs.Faults.{Fault, fault, place_in}
-use Rattle.source_files.specs.Files.{Source, Found, Lines, Absent, Unopened, Opened, Made, Entry, Table, SourceFile, source_file, number_of, found_at, asked, opened, files_opened, bytes_opened}
-use Rattle.source_files.specs.KeptFiles.{KeptValue, kept, kept_bytes, kept_in, kept_at}
-use Rattle.source_files.specs.Tables.{Becomes, IsGrown, AreFound}
+use Rattle.source_files.specs.Files.{Source, Found, Lines, Absent, Unopened, Opened, Made, Table, SourceFile, source_file, number_of, found_at, asked, opened, files_opened, bytes_opened}
+use Rattle.source_files.specs.KeptFiles.{kept, kept_bytes, kept_at}
+use Rattle.source_files.specs.Tables.{IsGrown, AreFound}
 use Rattle.source_files.specs.Limits.{the_limits}
 use Rattle.source_files.specs.Opening.{Opening, file_read, is_too_large, readable, are_too_many, first_opened, opened_as, opening}
 use Rattle.include_tree.specs.OpeningStep.{with_opened, open_file}
@@ -24,7 +23,8 @@ use Rattle.include_tree.specs.Including.{open_searched, open_header}
 use Rattle.source_files.proofs.TableLemmas.{grown_refl, grown_trans}
 use Rattle.source_files.proofs.OpeningLemmas.{bytes-opened}
 use Rattle.include_tree.proofs.SearchLemmas.{search_wide}
-use Rattle.source_files.proofs.SourcesLemmas.{found-opened, opening-as, entry-at}
+use Rattle.source_files.proofs.SourcesLemmas.{found-opened, opening-as, kept-at, same_ok as pair-same}
+use Rattle.source_files.proofs.KeptLemmas.{kept-grown}
 use Rattle.include_tree.proofs.StayingLemmas.{source-grown}
 use Rattle.edited_unit_laws.specs.Keeping.{Change, edited_files, KeepsFile, KeepsFiles}
 use Rattle.edited_unit_laws.specs.Steps.{KeepsState, moved, GoesAlike, with_text, OpensAlike, Grows}
@@ -43,7 +43,7 @@ on-grows path t rest (Some (Opened bytes)) h = grown_refl t
 on-grows path t rest (Some (Made bytes)) h = grown_refl t
 
 -- what a search gives over the edited files
-abbrev anew : Editing → Searched → Searched
+abbrev pub anew : Editing → Searched → Searched
 anew edit d = searched d.path (edited_table edit d.table)
 
 on-edited : (edit : Editing) (one : List ℕ → List ℕ) (path : List ℕ) (t files : Table) (rest rest2 : Table → Searched) (o : Option Found)
@@ -70,30 +70,6 @@ search-edited old new edit (path ∷ paths) t files g h =
 
 -- ---- kept files
 
--- the kept file of a path that stands for one
-kept-at : (path bytes : List ℕ) (f : Found) (t : Table) → found_at path t ≡ Some f → kept_bytes f ≡ Some bytes
-    → kept_at t (number_of path t) ≡ Some (kept (number_of path t) path bytes)
-kept-at path bytes f t h is =
-    ap (option_and_then (kept_in (number_of path t))) (entry-at path f t h)
-    ∙ ap (λ (o : Option (List ℕ)). option_map (kept (number_of path t) path) o) is
-
-kept-becomes : (n : ℕ) (path : List ℕ) (old new : Found) (k : KeptValue) → Becomes old new → option_map (kept n path) (kept_bytes old) ≡ Some k
-    → option_map (kept n path) (kept_bytes new) ≡ Some k
-kept-becomes n path old new k (inl same) h = subst (λ (f : Found). option_map (kept n path) (kept_bytes f) ≡ Some k) (sym same) h
-kept-becomes n path old new k (inr opens) h =
-    absurd (let none : ◌≡◌ {A = Option KeptValue} None (Some k) = subst (λ (f : Found). option_map (kept n path) (kept_bytes f) ≡ Some k) opens.1 h in cc)
-
-kept-entry : (n : ℕ) (e f : Entry) (k : KeptValue) → f.path ≡ e.path → Becomes e.found f.found → kept_in n e ≡ Some k → kept_in n f ≡ Some k
-kept-entry n e f k path becomes h =
-    ap (λ (p : List ℕ). option_map (kept n p) (kept_bytes f.found)) path ∙ kept-becomes n e.path e.found f.found k becomes h
-
-kept-grown : (old new : Table) (n m : ℕ) (k : KeptValue) → IsGrown old new → option_and_then (kept_in n) (slice_get old m) ≡ Some k
-    → option_and_then (kept_in n) (slice_get new m) ≡ Some k
-kept-grown [] new n m k g h = absurd (let none : ◌≡◌ {A = Option KeptValue} None (Some k) = h in cc)
-kept-grown (e ∷ old) [] n m k g h = absurd g
-kept-grown (e ∷ old) (f ∷ new) n zero k g h = kept-entry n e f k g.0 g.1 h
-kept-grown (e ∷ old) (f ∷ new) n (suc m) k g h = kept-grown old new n m k g.2 h
-
 pub file-same : (a b : SourceFile) → ◌≡◌ {A = Option SourceFile} (Some a) (Some b) → a ≡ b
 file-same a b h = cc
 
@@ -108,9 +84,6 @@ record WasRead (n : ℕ) (p : List ℕ) (u : Table) (file : SourceFile) (v : Tab
   number : file.number ≡ n
   path : file.path ≡ p
   table : v ≡ u
-
-pair-same : (a b : SourceFile × Table) → ◌≡◌ {A = Opening} (Ok a) (Ok b) → a ≡ b
-pair-same a b h = cc
 
 was-read : (place : Place) (n : ℕ) (path : List ℕ) (u v : Table) (file : SourceFile) (r : Result TextValue LexFault) → file_read place n path u r ≡ Ok (file, v) → WasRead n path u file v
 was-read place n path u v file (Ok text) h =

@@ -1,5 +1,5 @@
 -- The parts of a macro's definition: what is kept of its parameters and of its replacement list.
-use Rattle.std.proofs.Common.{◌≡◌, ℕ, zero, suc, ◌&&◌, Bool, true, false, cond, List, [], ◌∷◌, ◌++◌, map, drop, Option, Some, None, refl, ap, sym, subst, ◌∙◌, inl, inr}
+use Rattle.std.proofs.Common.{◌≡◌, ℕ, zero, suc, ◌&&◌, Bool, true, false, List, [], ◌∷◌, ◌++◌, map, drop, Option, Some, None, refl, ap, sym, subst, ◌∙◌, inl, inr}
 use Rattle.std.specs.List.{flat_map, position, position_or_len}
 use Rattle.std.specs.Str.{bytes_eq}
 use Rattle.std.proofs.lemmas.Bool.{cases_Bool}
@@ -10,6 +10,7 @@ use Rattle.std.proofs.lemmas.Slice.Eq.{bytes_eq-Decides}
 use Rattle.cs_base.specs.Token.{Token}
 use Rattle.line_shape.specs.Signs.{is_name, is_identifier, is_va_args, is_close}
 use Rattle.line_shape.specs.MacroLine.{MacroParts, macro, is_function_like, before_close, behind_close, is_parameter_list, has_named_rest, has_plain_rest, params_in, function_macro, macro_of}
+use Rattle.line_shape.proofs.SignLemmas.{cond-parts}
 use Rattle.macro_body.specs.declared.definitions.Definition.{Definition}
 use Rattle.macro_body.specs.Macro.{rest_name, named_or_rest, parameter_at}
 use Rattle.macro_expand.specs.Renaming.{Renaming, spelled, renamed, renamed_macro, KeepsBody}
@@ -50,10 +51,6 @@ swapped R ps (t ∷ ts) h = (
 pub record PartsGo (c : Change) (params ts : List Token) : Type 0 where
   pub body : Each (Fits c) ts
   pub uses : Each (λ t. Each (λ p. NamesAsBefore c.renaming p t) params) ts
-
-cond-parts : (b : Bool) (x m : MacroParts) → cond b (Some x) None ≡ Some m → x ≡ m
-cond-parts true x m e = same_Some x m e
-cond-parts false x m e = absurd (none-some m e)
 
 function-goes : (c : Change) (list : List Token) (o : Option (List Token)) (m : MacroParts) → ((body : List Token) → o ≡ Some body → PartsGo c (params_in list) body)
     → function_macro list o ≡ Some m → PartsGo c m.params m.body

@@ -1,20 +1,19 @@
 -- A file whose lists may move has a text in the new order, whatever its number.
 use Rattle.std.proofs.Common.{◌≡◌, ◌≤◌, ℕ, zero, suc, ◌-◌, Bool, true, false, not, List, [], ◌∷◌, length, drop, Option, Some, refl, ap, sym, subst, ◌∙◌, arith}
-use Rattle.std.specs.Prelude.{slice_get, codes, ◌&&◌, ◌||◌}
-use Rattle.std.specs.Str.{bytes_eq}
-use Rattle.std.proofs.lemmas.Slice.Eq.{bytes_eq-Decides}
+use Rattle.std.specs.Prelude.{slice_get, ◌&&◌}
 use Rattle.std.specs.Option.{option_map_or}
-use Rattle.std.proofs.lemmas.Bool.{and_parts}
 use Rattle.std.proofs.lemmas.Option.{none-some, same_Some}
 use Rattle.cs_base.specs.Token.{Token}
-use Rattle.line_shape.specs.Signs.{is_punctuator, is_hash, is_close}
+use Rattle.cs_base.proofs.BoolLemmas.{not_true}
+use Rattle.line_shape.specs.Signs.{is_hash, is_close}
+use Rattle.line_shape.proofs.SignLemmas.{close_no_hash}
 use Rattle.lexer.specs.FileText.{TextValue, text_value, file_text}
 use Rattle.lexer.specs.Tokens.{tokens_of, firsts_of}
+use Rattle.lexer.proofs.ScanLemmas.{firsts_of-each as file_firsts}
 use Rattle.arranged_text_laws.specs.Lists.{passes, may_begin, IsItem, AreItems, ListMoves, EachMoves}
 use Rattle.arranged_text_laws.specs.Moving.{byte_lists, AreLong, FilesAreArranged, NumbersDoNotMatter}
 use Rattle.arranged_text_laws.specs.FileItems.{placed}
 use Rattle.arranged_text_laws.specs.Runs.{Placed, goes_on}
-use Rattle.arranged_text_laws.proofs.FileItemLemmas.{file_firsts}
 use Rattle.list_cuts.specs.Cuts.{Cut, count_of, arranged, AreOf, AreItemsOf}
 use Rattle.list_cuts.specs.CutOf.{back, cut_items, rest_of, cut_of}
 use Rattle.list_cuts.specs.Spans.{end_of, all_rearranged}
@@ -68,10 +67,6 @@ placed_at (t ∷ ts) [] k p is = absurd (none-some p is)
 placed_at (t ∷ ts) (f ∷ fs) zero p is = ap (λ (q : Placed). Some q.tok) (same_Some (record { tok = t; first = f }) p is)
 placed_at (t ∷ ts) (f ∷ fs) (suc k) p is = placed_at ts fs k p is
 
-not_true : (b : Bool) → not b ≡ true → b ≡ false
-not_true true h = absurd cc
-not_true false h = refl
-
 head_of : (ts : List Token) (fs : List Bool) (s : Span) → IsItem ts s → (p : Placed) → slice_get (placed ts fs) s.begin ≡ Some p → is_hash p.tok ≡ false
 head_of ts fs s it p is = not_true (is_hash p.tok) (passes_at may_begin ts s.begin p.tok it.first (placed_at ts fs s.begin p is))
 
@@ -92,18 +87,6 @@ close_of_items : (ts : List Token) (s : Span) (more : List Span) → AreItems ts
 unfolding end_of
 close_of_items ts s [] h = h.1
 close_of_items ts s (t ∷ more) h = close_of_items ts t more h.3
-
--- a `)` begins no directive line
-close_no_hash : (t : Token) → is_close t ≡ true → is_hash t ≡ false
-unfolding is_close is_hash
-close_no_hash t h =
-    let parts = and_parts (is_punctuator t.kind) (bytes_eq t.text (codes ")")) h in
-    let same : t.text ≡ codes ")" = (bytes_eq-Decides t.text (codes ")")).0 parts.1 in
-    ap (λ (s : List ℕ). (is_punctuator t.kind && bytes_eq s (codes "#")) || (is_punctuator t.kind && bytes_eq s (codes "%:"))) same ∙ both (is_punctuator t.kind)
-  where
-    both : (b : Bool) → ((b && bytes_eq (codes ")") (codes "#")) || (b && bytes_eq (codes ")") (codes "%:"))) ≡ false
-    both true = refl
-    both false = refl
 
 goes_at : (ts : List Token) (fs : List Bool) (k : ℕ) → length fs ≡ length ts → passes is_close ts k ≡ true → goes_on (drop k (placed ts fs)) ≡ true
 goes_at [] fs k even h = absurd cc

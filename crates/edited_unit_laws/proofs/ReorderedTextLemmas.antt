@@ -3,6 +3,7 @@ use Rattle.std.proofs.Common.{◌≡◌, ℕ, suc, ◌+◌, List, [], ◌∷◌,
 use Rattle.cs_base.specs.Answer.{result_then, result_map_err}
 use Rattle.cs_base.specs.Token.{Token}
 use Rattle.cs_base.specs.Units.{UnitValue}
+use Rattle.cs_base.proofs.AnswerLemmas.{unmapped}
 use Rattle.lexer.specs.FileText.{file_text}
 use Rattle.source_files.specs.Faults.{Fault}
 use Rattle.source_files.specs.Files.{Source, Table, Carried, carried}
@@ -27,10 +28,6 @@ use Rattle.unit_laws.proofs.EditedLemmas.{edited_grown}
 use Rattle.edited_unit_laws.specs.ReorderedAnalyses.{UnitCuts, UnitStands}
 
 -- ---- one unit
-
-pub unmapped : {X E F : Type 0} (change : E → F) (r : Result X E) (x : X) → result_map_err change r ≡ Ok x → r ≡ Ok x
-unmapped change (Ok y) x e = let same : y ≡ x = cc in ap (λ (z : _). Ok z) same
-unmapped change (Err fault) x e = absurd cc
 
 mapped : {X E F : Type 0} (change : E → F) (r : Result X E) (x : X) → r ≡ Ok x → result_map_err change r ≡ Ok x
 mapped change r x e = ap (result_map_err change) e

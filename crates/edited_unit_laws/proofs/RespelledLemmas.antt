@@ -8,20 +8,15 @@ use Rattle.lexer.specs.FileText.{TextValue, LexFault, FileTooLarge, text_value, 
 use Rattle.lexer.specs.Tokens.{tokens_of, firsts_of, open_comment_of}
 use Rattle.part_respell.specs.Respelled.{respelled, moved_to}
 use Rattle.macro_expand.specs.Renaming.{Renaming, renamed}
-use Rattle.source_files.specs.Files.{SourceFile, source_file}
 use Rattle.source_files.specs.Sources.{read_as, source_kept, source_at}
+use Rattle.source_files.proofs.KeptLemmas.{read-text}
 use Rattle.edited_unit_laws.specs.EditedTokens.{edited_token}
 use Rattle.edited_unit_laws.specs.Lines.{Each}
 use Rattle.edited_unit_laws.proofs.EditedTokenLemmas.{edited_files_keep_tokens}
 use Rattle.edited_unit_laws.specs.EditedFiles.{EditedFilesAreKept, RespelledFilesAreKept}
-use Rattle.edited_unit_laws.proofs.OpenLemmas.{file-same}
 
 text-same : (a b : TextValue) → ◌≡◌ {A = Result TextValue LexFault} (Ok a) (Ok b) → a ≡ b
 text-same a b h = cc
-
-read-text : (n : ℕ) (path : List ℕ) (r : Result TextValue LexFault) (file : SourceFile) → read_as n path r ≡ Some file → r ≡ Ok file.text
-read-text n path (Ok text) file h = ap (λ (f : SourceFile). Ok f.text) (file-same (source_file n path text) file h)
-read-text n path (Err e) file h = absurd (let none : ◌≡◌ {A = Option SourceFile} None (Some file) = h in cc)
 
 -- a file that has a text has no comment without end
 record HasText (n : ℕ) (bytes : List ℕ) (text : TextValue) : Type 0 where

@@ -5,6 +5,7 @@ use Rattle.std.specs.Str.{bytes_eq}
 use Rattle.std.proofs.lemmas.Bool.{cases_Bool}
 use Rattle.source_files.specs.Files.{Source, Found, Lines, Absent, Unopened, Opened, Made, Entry, entry, Table, number_of, found_at, found_in, numbered, asked, opened, opened_bytes, one_more, more_bytes, files_opened, bytes_opened}
 use Rattle.source_files.specs.Tables.{Becomes, IsGrown, IsFound, AreFound}
+use Rattle.source_files.proofs.KeptLemmas.{behind_other as number-other}
 use Rattle.analysis.specs.Changed.{Editing, edited_found, edited_from, edited_table}
 
 -- ---- what a path stands for
@@ -100,9 +101,6 @@ asked-edited old new edit path t files g h =
 
 number-same : (path : List ℕ) (e : Entry) (t : Table) → bytes_eq path e.path ≡ true → number_of path (e ∷ t) ≡ 0
 number-same path e t same = rw same refl
-
-number-other : (path : List ℕ) (e : Entry) (t : Table) → bytes_eq path e.path ≡ false → number_of path (e ∷ t) ≡ 1 + number_of path t
-number-other path e t other = rw other refl
 
 opened-at : (edit : Editing) (n k : ℕ) (path bytes : List ℕ) (t : Table) → k ≡ n + number_of path t
     → opened path (edit k bytes) (edited_from edit n t) ≡ edited_from edit n (opened path bytes t)

@@ -3,6 +3,7 @@ use Rattle.std.proofs.Common.{◌≡◌, ◌<◌, ℕ, zero, suc, ◌+◌, List,
 use Rattle.std.proofs.lemmas.Option.{none-some, same_Some}
 use Rattle.cs_base.specs.Answer.{result_then}
 use Rattle.cs_base.specs.Units.{UnitValue}
+use Rattle.cs_base.proofs.AnswerLemmas.{unmapped}
 use Rattle.source_files.specs.Files.{Source, Table, Carried, nothing_carried}
 use Rattle.source_files.specs.Tables.{IsGrown, AreFound}
 use Rattle.unit_steps.specs.Texts.{UnitTextValue}
@@ -18,7 +19,7 @@ use Rattle.unit_laws.specs.Walking.{IsOf}
 use Rattle.source_files.proofs.TableLemmas.{grown_refl, grown_trans}
 use Rattle.unit_laws.proofs.TokenRunLemmas.{token_run_grown}
 use Rattle.edited_unit_laws.specs.TokenRuns.{WorkspaceOfRuns, WorkspaceTokensAreOfRuns}
-use Rattle.edited_unit_laws.proofs.ReorderedTextLemmas.{unmapped, texts_grown}
+use Rattle.edited_unit_laws.proofs.ReorderedTextLemmas.{texts_grown}
 
 -- the same of units from some number on
 record UnitsOfRuns (old : Source) (files : Table) (us : List UnitAnalysis) (table : Table) : Type 0 where

@@ -1,5 +1,5 @@
 -- Tokens of units have an origin for each character, or none; those that are spelled as identifiers have each.
-use Rattle.std.proofs.Common.{◌≡◌, ℕ, zero, suc, ◌+◌, ◌-◌, ◌*◌, Bool, true, false, codes, List, [], ◌∷◌, ◌++◌, length, Option, None, Some, Ok, Err, Result, inl, inr, refl, sym, ap, subst, ◌∙◌, arith, length-append}
+use Rattle.std.proofs.Common.{◌≡◌, ℕ, zero, suc, ◌+◌, ◌*◌, Bool, true, false, codes, List, [], ◌∷◌, ◌++◌, length, Option, None, Some, Ok, Err, Result, inl, inr, refl, sym, ap, subst, ◌∙◌, length-append}
 use Rattle.std.specs.Prelude.{◌⊎◌, ◌^◌, nat_lt, slice_get, cond, unwrap_or}
 use Rattle.std.specs.List.{flat_map, list_all}
 use Rattle.std.specs.Str.{bytes_eq}
@@ -18,6 +18,7 @@ use Rattle.lexer.specs.Tokens.{tokens_of, firsts_of}
 use Rattle.lexer.proofs.OriginLemmas.{length-origins}
 use Rattle.macro_body.specs.Below.paste_origin.Strings.{string_text}
 use Rattle.macro_body.specs.Substitution.{put_in, line_number, digit_origins, path_text}
+use Rattle.macro_body.proofs.PredefinedLemmas.{length-digit_origins as digits_length}
 use Rattle.unit_steps.specs.Conditions.{answer_for}
 use Rattle.source_files.specs.Files.{Table, SourceFile, source_file}
 use Rattle.source_files.specs.KeptFiles.{KeptValue, kept_at}
@@ -144,10 +145,6 @@ quote_no_word = refl
 -- what begins with a double quote is no such text
 quoted : (text : List ℕ) (rest : List ℕ) → text ≡ double_quote ∷ rest → list_all is_word text ≡ true → ⊥
 quoted text rest e words = quoted_fails is_word text rest quote_no_word e words
-
-pub digits_length : (at n : ℕ) → length (digit_origins at n) ≡ n
-digits_length at zero = refl
-digits_length at (suc n) = ap suc (digits_length (at + 1) n)
 
 -- ---- what begins a file token
 

@@ -1,5 +1,5 @@
 -- Conditions whose tokens count alike.
-use Rattle.std.proofs.Common.{◌≡◌, ℕ, zero, suc, ◌+◌, true, cond, if◌then◌else◌, Option, Some, None, Result, Ok, Err, List, [], ◌∷◌, length, codes, refl, ap}
+use Rattle.std.proofs.Common.{◌≡◌, ℕ, zero, suc, ◌+◌, true, cond, if◌then◌else◌, Some, None, Result, Ok, Err, List, [], ◌∷◌, length, codes, refl, ap}
 use Rattle.cs_base.specs.declared.tokens.Kind.{Kind}
 use Rattle.cs_base.specs.declared.tokens.Kind.TheVariants.{Ident, Number, Char, Str, Punct, Other, Header}
 use Rattle.cs_base.specs.Token.{Token}
@@ -8,8 +8,9 @@ use Rattle.unit_steps.specs.Below.cond_eval.declared.faults.CondFault.TheVariant
 use Rattle.unit_steps.specs.Below.cond_eval.declared.operators.Operator.{Operator}
 use Rattle.unit_steps.specs.Below.cond_eval.declared.places.Beginning.{Beginning}
 use Rattle.unit_steps.specs.Below.cond_eval.declared.places.Beginning.TheVariants.{Whole, Unary, Open, Nothing}
-use Rattle.unit_steps.specs.Below.cond_eval.Reading.{Choice, Read, read, Rule, Expression, Operand, Inner, is_punctuator, punctuator_at, is_punct, beginning_of, beginning_at, operator_at, and_then, with_operator, closed, operand_from, operand, joined, chain, binary, branches, conditional, by_rule, enclosed, tree_of}
+use Rattle.unit_steps.specs.Below.cond_eval.Reading.{Choice, Read, read, Rule, Expression, Operand, Inner, is_punctuator, punctuator_at, is_punct, beginning_of, beginning_at, operator_at, and_then, closed, operand_from, operand, joined, chain, binary, branches, conditional, by_rule, enclosed, tree_of}
 use Rattle.unit_steps.specs.Below.cond_eval.Evaluation.{condition}
+use Rattle.unit_steps.proofs.Below.cond_eval.WalkLemmas.{with_operator-same as with_operator-alike}
 use Rattle.edited_unit_laws.specs.Conditions.{AllCountAlike, ConditionsCountAlike}
 use Rattle.edited_unit_laws.specs.Lines.{is_fixed}
 
@@ -77,11 +78,6 @@ and_then-alike : {A B : Type 0} (r s : Result A CondFault) (f g : A → Result B
     → ((a : A) → f a ≡ g a) → and_then r f ≡ and_then s g
 and_then-alike r s f g same each =
     rw same (and_then-second f g each s)
-
-with_operator-alike : {A : Type 0} (o : Option Operator) (none : A) (f g : Operator → A) → ((operator : Operator) → f operator ≡ g operator)
-    → with_operator o none f ≡ with_operator o none g
-with_operator-alike None none f g each = refl
-with_operator-alike (Some operator) none f g each = each operator
 
 -- a sign at a place, and an operator of a level
 is_punct-alike : (xs ys : List Token) → Alike xs ys → (at : ℕ) (text : List ℕ) → is_punct xs at text ≡ is_punct ys at text

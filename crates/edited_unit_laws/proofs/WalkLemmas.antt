@@ -22,6 +22,7 @@ use Rattle.include_tree.specs.Including.{Inner}
 use Rattle.include_tree.specs.Sections.{Group, Processed, Awaited, Over, Skipped, Section, section, are_processed, group_if, group_after, group_of_else, Turn, Opens, GoesOn, GoesLast, Ends, Stays, turn_of}
 use Rattle.unit_steps.specs.Conditions.{holds}
 use Rattle.unit_steps.specs.Directives.{opens_with, goes_with, is_if, says_once, with_once, said_once, pragma_of}
+use Rattle.include_tree.specs.Asking.{gnu_holds, asks_files, opens_in, goes_in}
 use Rattle.include_tree.specs.Walk.{ItemText, item_texts, items_in, processed, Stepped, stepped, reaching, reaching_alive, go_on, opens, goes_on, in_section, turned, is_foreign, foreign_line, item_step, file_end, walk, file_items}
 use Rattle.include_tree.proofs.StepLemmas.{PutsOut}
 use Rattle.source_files.proofs.TableLemmas.{grown_refl}
@@ -35,6 +36,7 @@ use Rattle.edited_unit_laws.specs.Steps.{moved, GoesAlike, IsPutOutRenamed, IsSa
 use Rattle.edited_unit_laws.proofs.ConditionLemmas.{holds-alike}
 use Rattle.edited_unit_laws.proofs.DirectiveLemmas.{define-alike, undef-alike, asks-alike, kept-tokens}
 use Rattle.edited_unit_laws.proofs.FollowLemmas.{onward-grows, alike-noted, alike-onward, alike-only, alike-did, alike-cond, alike-test}
+use Rattle.edited_unit_laws.proofs.AskingLemmas.{gnu-alike}
 use Rattle.edited_unit_laws.proofs.IncludeLemmas.{include-alike, include-next-alike}
 use Rattle.edited_unit_laws.proofs.LineLemmas.{LineGoes, ItemGoes, file-items-go, next-kept, pragma-kept}
 use Rattle.edited_unit_laws.proofs.PartLemmas.{each-drop}
@@ -77,6 +79,24 @@ if-same c kind.Pragma = refl
 if-same c kind.Empty = refl
 if-same c (kind.Bad cause at nests) = refl
 if-same c (kind.Gnu line) = refl
+
+asks-same : (c : Change) (standard : Standard) (k : ItemKind) → asks_files standard (renamed_kind c.renaming k) ≡ asks_files standard k
+asks-same c standard (kind.Bad cause at nests) = refl
+asks-same c standard (kind.Gnu line) = refl
+asks-same c standard kind.Run = refl
+asks-same c standard kind.Define = refl
+asks-same c standard kind.Undef = refl
+asks-same c standard kind.If = refl
+asks-same c standard kind.Ifdef = refl
+asks-same c standard kind.Ifndef = refl
+asks-same c standard kind.Elif = refl
+asks-same c standard kind.Else = refl
+asks-same c standard kind.Endif = refl
+asks-same c standard kind.Include = refl
+asks-same c standard kind.Line = refl
+asks-same c standard kind.Error = refl
+asks-same c standard kind.Pragma = refl
+asks-same c standard kind.Empty = refl
 
 foreign-same : (c : Change) (standard : Standard) (k : ItemKind) → is_foreign standard (renamed_kind c.renaming k) ≡ is_foreign standard k
 foreign-same c standard (kind.Bad cause at nests) = refl
@@ -216,6 +236,32 @@ module _ (c : Change) (names : KeepsNames c) (source : Source) (files : KeepsFil
   goes_with-alike file text kind.Pragma at toks macros s h = holds-behind file text at toks macros s h.toks
   goes_with-alike file text kind.Empty at toks macros s h = holds-behind file text at toks macros s h.toks
 
+  -- a condition that is evaluated, in a unit of GNU C
+  gnu-behind : (file : SourceFile) (text : TextValue) (at : Pos) (toks : List Token) (macros : Macros) (s : State) → Each (Fits c) toks
+      → GoesAlike c (IsSame {A = Bool}) macros s (gnu_holds ctx file at (drop 2 toks) s) (gnu_holds ctx2 (with_text file text) (c.renaming.move at) (drop 2 (map (renamed c.renaming) toks)) (moved c macros s))
+  gnu-behind file text at toks macros s h =
+      rw (drop-map (renamed c.renaming) 2 toks) (gnu-alike c names source files old unit earlier file text at (c.renaming.move at) (drop 2 toks) macros s (each-drop (Fits c) 2 toks h))
+
+  opens_in-alike : (file : SourceFile) (text : TextValue) (k : ItemKind) (at : Pos) (toks : List Token) (macros : Macros) (s : State) → LineGoes c k toks
+      → GoesAlike c (IsSame {A = Bool}) macros s (opens_in ctx k file at toks s)
+      (opens_in ctx2 (renamed_kind c.renaming k) (with_text file text) (c.renaming.move at) (map (renamed c.renaming) toks) (moved c macros s))
+  opens_in-alike file text k at toks macros s h =
+      rw (asks-same c unit.standard k)
+      (alike-cond c (IsSame {A = Bool}) macros s (asks_files unit.standard k) (gnu_holds ctx file at (drop 2 toks) s) (opens_with k file at toks s)
+      (gnu_holds ctx2 (with_text file text) (c.renaming.move at) (drop 2 (map (renamed c.renaming) toks)) (moved c macros s))
+      (opens_with (renamed_kind c.renaming k) (with_text file text) (c.renaming.move at) (map (renamed c.renaming) toks) (moved c macros s))
+      (gnu-behind file text at toks macros s h.toks) (opens_with-alike file text k at toks macros s h))
+
+  goes_in-alike : (file : SourceFile) (text : TextValue) (k : ItemKind) (at : Pos) (toks : List Token) (macros : Macros) (s : State) → LineGoes c k toks
+      → GoesAlike c (IsSame {A = Bool}) macros s (goes_in ctx k file at toks s)
+      (goes_in ctx2 (renamed_kind c.renaming k) (with_text file text) (c.renaming.move at) (map (renamed c.renaming) toks) (moved c macros s))
+  goes_in-alike file text k at toks macros s h =
+      rw (asks-same c unit.standard k)
+      (alike-cond c (IsSame {A = Bool}) macros s (asks_files unit.standard k) (gnu_holds ctx file at (drop 2 toks) s) (goes_with k file at toks s)
+      (gnu_holds ctx2 (with_text file text) (c.renaming.move at) (drop 2 (map (renamed c.renaming) toks)) (moved c macros s))
+      (goes_with (renamed_kind c.renaming k) (with_text file text) (c.renaming.move at) (map (renamed c.renaming) toks) (moved c macros s))
+      (gnu-behind file text at toks macros s h.toks) (goes_with-alike file text k at toks macros s h))
+
   -- ---- sections
 
   only-stepped : (macros : Macros) (s : State) (d : Stepped) → GoesAlike c (IsStepped c) macros s (only d s) (only (renamed_stepped c.renaming d) (moved c macros s))
@@ -233,33 +279,33 @@ module _ (c : Change) (names : KeepsNames c) (source : Source) (files : KeepsFil
       (λ b b2 t macros2 v. alike-only c (IsStepped c) macros2 t (next b) (next2 b2) (ap next2 v ∙ same b))
 
   opens-alike : (file : SourceFile) (text : TextValue) (k : ℕ) (i : ItemText) (sections : List Section) (macros : Macros) (s : State) → ItemGoes c i
-      → GoesAlike c (IsStepped c) macros s (opens file k i sections s)
-      (opens (with_text file text) k (renamed_item_text c.renaming i) (map (renamed_section c.renaming) sections) (moved c macros s))
+      → GoesAlike c (IsStepped c) macros s (opens ctx file k i sections s)
+      (opens ctx2 (with_text file text) k (renamed_item_text c.renaming i) (map (renamed_section c.renaming) sections) (moved c macros s))
   opens-alike file text k i sections macros s h =
       rw (processed-same c sections, if-same c i.kind)
       (alike-cond c (IsStepped c) macros s (are_processed sections)
-      (reaching file k (is_if i.kind) s (onward (opens_with i.kind file i.at i.toks s) (λ b t. only (stepped [] (section i.at (group_if b) false ∷ sections)) t)))
+      (reaching file k (is_if i.kind) s (onward (opens_in ctx i.kind file i.at i.toks s) (λ b t. only (stepped [] (section i.at (group_if b) false ∷ sections)) t)))
       (only (stepped [] (section i.at Skipped false ∷ sections)) s)
-      (reaching (with_text file text) k (is_if i.kind) (moved c macros s) (onward (opens_with (renamed_kind c.renaming i.kind) (with_text file text) (c.renaming.move i.at) (map (renamed c.renaming) i.toks) (moved c macros s))
+      (reaching (with_text file text) k (is_if i.kind) (moved c macros s) (onward (opens_in ctx2 (renamed_kind c.renaming i.kind) (with_text file text) (c.renaming.move i.at) (map (renamed c.renaming) i.toks) (moved c macros s))
       (λ b t. only (stepped [] (section (c.renaming.move i.at) (group_if b) false ∷ map (renamed_section c.renaming) sections)) t)))
       (only (stepped [] (section (c.renaming.move i.at) Skipped false ∷ map (renamed_section c.renaming) sections)) (moved c macros s))
-      (reaching-alike file text k (is_if i.kind) macros s (onward (opens_with i.kind file i.at i.toks s) (λ b t. only (stepped [] (section i.at (group_if b) false ∷ sections)) t))
-      (onward (opens_with (renamed_kind c.renaming i.kind) (with_text file text) (c.renaming.move i.at) (map (renamed c.renaming) i.toks) (moved c macros s))
+      (reaching-alike file text k (is_if i.kind) macros s (onward (opens_in ctx i.kind file i.at i.toks s) (λ b t. only (stepped [] (section i.at (group_if b) false ∷ sections)) t))
+      (onward (opens_in ctx2 (renamed_kind c.renaming i.kind) (with_text file text) (c.renaming.move i.at) (map (renamed c.renaming) i.toks) (moved c macros s))
       (λ b t. only (stepped [] (section (c.renaming.move i.at) (group_if b) false ∷ map (renamed_section c.renaming) sections)) t))
-      (then-stepped macros s (opens_with i.kind file i.at i.toks s) (opens_with (renamed_kind c.renaming i.kind) (with_text file text) (c.renaming.move i.at) (map (renamed c.renaming) i.toks) (moved c macros s))
+      (then-stepped macros s (opens_in ctx i.kind file i.at i.toks s) (opens_in ctx2 (renamed_kind c.renaming i.kind) (with_text file text) (c.renaming.move i.at) (map (renamed c.renaming) i.toks) (moved c macros s))
       (λ b. stepped [] (section i.at (group_if b) false ∷ sections)) (λ b. stepped [] (section (c.renaming.move i.at) (group_if b) false ∷ map (renamed_section c.renaming) sections)) (λ b. refl)
-      (opens_with-alike file text i.kind i.at i.toks macros s h)))
+      (opens_in-alike file text i.kind i.at i.toks macros s h)))
       (only-stepped macros s (stepped [] (section i.at Skipped false ∷ sections))))
 
   goes_on-alike : (file : SourceFile) (text : TextValue) (k : ℕ) (i : ItemText) (open_ : Section) (sections : List Section) (macros : Macros) (s : State) (g : Group) → ItemGoes c i
-      → GoesAlike c (IsStepped c) macros s (goes_on file k i open_ sections s g)
-      (goes_on (with_text file text) k (renamed_item_text c.renaming i) (renamed_section c.renaming open_) (map (renamed_section c.renaming) sections) (moved c macros s) g)
+      → GoesAlike c (IsStepped c) macros s (goes_on ctx file k i open_ sections s g)
+      (goes_on ctx2 (with_text file text) k (renamed_item_text c.renaming i) (renamed_section c.renaming open_) (map (renamed_section c.renaming) sections) (moved c macros s) g)
   goes_on-alike file text k i open_ sections macros s Awaited h =
-      reaching-alike file text k true macros s (onward (goes_with i.kind file i.at i.toks s) (λ b t. only (go_on open_ (group_if b) false sections) t))
-      (onward (goes_with (renamed_kind c.renaming i.kind) (with_text file text) (c.renaming.move i.at) (map (renamed c.renaming) i.toks) (moved c macros s)) (λ b t. only (go_on (renamed_section c.renaming open_) (group_if b) false (map (renamed_section c.renaming) sections)) t))
-      (then-stepped macros s (goes_with i.kind file i.at i.toks s) (goes_with (renamed_kind c.renaming i.kind) (with_text file text) (c.renaming.move i.at) (map (renamed c.renaming) i.toks) (moved c macros s))
+      reaching-alike file text k true macros s (onward (goes_in ctx i.kind file i.at i.toks s) (λ b t. only (go_on open_ (group_if b) false sections) t))
+      (onward (goes_in ctx2 (renamed_kind c.renaming i.kind) (with_text file text) (c.renaming.move i.at) (map (renamed c.renaming) i.toks) (moved c macros s)) (λ b t. only (go_on (renamed_section c.renaming open_) (group_if b) false (map (renamed_section c.renaming) sections)) t))
+      (then-stepped macros s (goes_in ctx i.kind file i.at i.toks s) (goes_in ctx2 (renamed_kind c.renaming i.kind) (with_text file text) (c.renaming.move i.at) (map (renamed c.renaming) i.toks) (moved c macros s))
       (λ b. go_on open_ (group_if b) false sections) (λ b. go_on (renamed_section c.renaming open_) (group_if b) false (map (renamed_section c.renaming) sections)) (λ b. refl)
-      (goes_with-alike file text i.kind i.at i.toks macros s h))
+      (goes_in-alike file text i.kind i.at i.toks macros s h))
   goes_on-alike file text k i open_ sections macros s Skipped h = only-stepped macros s (go_on open_ Skipped false sections)
   goes_on-alike file text k i open_ sections macros s Processed h =
       reaching-alike file text k false macros s (only (go_on open_ (group_after Processed) false sections) s) (only (renamed_stepped c.renaming (go_on open_ (group_after Processed) false sections)) (moved c macros s))
@@ -306,8 +352,8 @@ module _ (c : Change) (names : KeepsNames c) (source : Source) (files : KeepsFil
       (turned ctx2 inner2 (with_text file text) k (renamed_item_text c.renaming i) (map (renamed_section c.renaming) sections) (moved c macros s) turn)
   turned-alike inner inner2 grows alike file text k i sections macros s Opens h = opens-alike file text k i sections macros s h
   turned-alike inner inner2 grows alike file text k i sections macros s GoesOn h =
-      in_section-alike file text i GoesOn sections macros s (λ open_ around. goes_on file k i open_ around s open_.group)
-      (λ open_ around. goes_on (with_text file text) k (renamed_item_text c.renaming i) open_ around (moved c macros s) open_.group)
+      in_section-alike file text i GoesOn sections macros s (λ open_ around. goes_on ctx file k i open_ around s open_.group)
+      (λ open_ around. goes_on ctx2 (with_text file text) k (renamed_item_text c.renaming i) open_ around (moved c macros s) open_.group)
       (λ o around. goes_on-alike file text k i o around macros s o.group h)
   turned-alike inner inner2 grows alike file text k i sections macros s GoesLast h =
       in_section-alike file text i GoesLast sections macros s (λ open_ around. reaching_alive file k open_.group s (only (go_on open_ (group_of_else open_.group) true around) s))

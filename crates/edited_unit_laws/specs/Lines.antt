@@ -30,12 +30,15 @@ is_fixed Str = false
 is_fixed _ = true
 
 -- What a renaming keeps of each token: a token that is neither an identifier nor a string literal stays, and so do the words
--- `defined` and `__VA_ARGS__` (6.10.1 paragraph 1, 6.10.3 paragraph 5) and `__VA_OPT__`, which no other token becomes.
+-- `defined` and `__VA_ARGS__` (6.10.1 paragraph 1, 6.10.3 paragraph 5), `__VA_OPT__` and those by which conditions of GNU C ask
+-- for headers, which no other token becomes.
 pub record KeepsToken (r : Renaming) (t : Token) : Type 0 where
   pub others : is_fixed t.kind ≡ true → spelled r t ≡ t.text
   pub asks : is_word (codes "defined") (renamed r t) ≡ is_word (codes "defined") t
   pub rest : is_va_args (renamed r t) ≡ is_va_args t
   pub opts : is_word (codes "__VA_OPT__") (renamed r t) ≡ is_word (codes "__VA_OPT__") t
+  pub header : is_word (codes "__has_include") (renamed r t) ≡ is_word (codes "__has_include") t
+  pub next : is_word (codes "__has_include_next") (renamed r t) ≡ is_word (codes "__has_include_next") t
 
 -- the parameters among the tokens behind the name of a macro
 abbrev pub parameters_of : List Token → List Token

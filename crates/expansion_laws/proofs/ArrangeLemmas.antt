@@ -1,25 +1,29 @@
 -- A run in the new order is expanded to the tokens in the new order.
-use Rattle.std.proofs.Common.{◌≡◌, ℕ, suc, ◌+◌, ◌-◌, ◌<◌, ◌≤◌, ◌&&◌, Bool, true, false, not, List, [], ◌∷◌, ◌++◌, length, take, drop, map, Some, Ok, refl, ap, sym, subst, ◌∙◌, inl, inr, arith, length-append, length-drop, append_assoc}
-use Rattle.std.specs.Prelude.{slice_get, nat_le, ◌||◌}
+use Rattle.std.proofs.Common.{◌≡◌, ℕ, suc, ◌+◌, ◌-◌, ◌<◌, ◌≤◌, ◌&&◌, Bool, true, false, List, [], ◌∷◌, ◌++◌, length, take, drop, map, Some, Ok, refl, ap, sym, subst, ◌∙◌, inl, inr, arith, length-append, length-drop, append_assoc}
+use Rattle.std.specs.Prelude.{slice_get, nat_le}
 use Rattle.std.specs.List.{list_all}
 use Rattle.std.proofs.lemmas.Bool.{and_parts, le-leb}
 use Rattle.std.proofs.lemmas.List.{length-map, map-append, take-map, drop-map, drop-drop}
 use Rattle.std.proofs.lemmas.List.Folds.{list_all-append}
 use Rattle.cs_base.specs.Token.{Token}
+use Rattle.cs_base.proofs.BoolLemmas.{not_true, or_last as or_right}
+use Rattle.cs_base.proofs.ListLemmas.{drop_at}
 use Rattle.line_shape.specs.Signs.{is_name, is_open, is_close, is_comma}
+use Rattle.line_shape.proofs.SignLemmas.{close-no_name, comma-no_name}
 use Rattle.macro_body.specs.Hides.{Hidden, hidden, toks_of, unhidden}
 use Rattle.macro_body.specs.Macro.{Table}
 use Rattle.macro_body.specs.Notes.{Note, Replaced, Linked, Stringized, Pasted, Expanded, expanded, put_out}
 use Rattle.macro_expand.specs.Expansion.{Setting, whole, expansion}
 use Rattle.macro_expand.specs.Laws.{begins_open, ExpandsInParts}
 use Rattle.macro_expand.proofs.WholeLemmas.{whole_falls}
+use Rattle.macro_expand.proofs.PutOutLemmas.{no_macro as no_macro_of}
 use Rattle.expansion_laws.proofs.ListLemmas.{AllNotes, notes_split, each_note}
 use Rattle.list_cuts.specs.Cuts.{Cut, done, keep, list, Items, ended, item, count_of, span_of, IsOrder, picked, woven, gaps_of, arranged, items_of, AreOf, AreItemsOf}
 use Rattle.list_cuts.proofs.CutLemmas.{length-order, length-arranged}
 use Rattle.expansion_laws.specs.Alike.{unlined, label, names_line, brings_no_line}
 use Rattle.expansion_laws.specs.Arranging.{IsMark, MarksStand, ItemsStand, AreDistinct, in_lists, LinesStay, labels, bare, IsLike, AreLike, StandFor, RunsAreArranged}
 use Rattle.expansion_laws.proofs.BeforeLemmas.{Between, wider, told_between}
-use Rattle.expansion_laws.proofs.MarkLemmas.{drop_at, distinct_take, distinct_drop, open-no_name, close-no_name, comma-no_name, close-no_open, comma-no_open, no_macro_of, ends_sign, split_at}
+use Rattle.expansion_laws.proofs.MarkLemmas.{distinct_take, distinct_drop, open-no_name, close-no_open, comma-no_open, ends_sign, split_at}
 use Rattle.expansion_laws.proofs.GoingLemmas.{open_labels, open_unlined, name_unlined, one_like, Goes, goes_as, goes_sign, ends_apart, goes_both, goes_alike, Part, AllGo, IsBetween, AreGaps, runs_of, outs_of, costs, costs-cons, woven_goes, chosen, picked_chosen, chosen_go, chosen_cost, length-chosen}
 
 -- What stays the same: how expansions go part by part, the macros and the path, and the order.
@@ -47,10 +51,6 @@ quiet_all table low high (Replaced name m before ∷ notes) q b =
 quiet_all table low high (Linked x y ∷ notes) q b = quiet_all table low high notes q.1 b.1
 quiet_all table low high (Stringized toks s ∷ notes) q b = quiet_all table low high notes q.1 b.1
 quiet_all table low high (Pasted x y z ∷ notes) q b = quiet_all table low high notes q.1 b.1
-
-not_true : (b : Bool) → not b ≡ true → b ≡ false
-not_true true h = absurd cc
-not_true false h = refl
 
 quiet_note : (table : Table) (low high : ℕ) (note : Note) → brings_no_line table note ≡ true → QuietNote table low high note
 quiet_note table low high (Replaced name m before) h = λ one two. not_true (names_line (table name.text)) h
@@ -411,10 +411,6 @@ lines_quiet table from low high c (Replaced name m before ∷ notes) more all = 
 lines_quiet table from low high c (Linked x y ∷ notes) more all = (tt, lines_quiet table from low high c notes more all.1)
 lines_quiet table from low high c (Stringized toks s ∷ notes) more all = (tt, lines_quiet table from low high c notes more all.1)
 lines_quiet table from low high c (Pasted x y z ∷ notes) more all = (tt, lines_quiet table from low high c notes more all.1)
-
-or_right : (b c : Bool) → c ≡ true → (b || c) ≡ true
-or_right true c h = refl
-or_right false c h = h
 
 in_this : (from m : ℕ) (js : Items) (d : Cut) (before : ℕ) → from + m ≤ before → before ≤ from + m + span_of js → in_lists from (keep m (list js d)) before ≡ true
 unfolding in_lists

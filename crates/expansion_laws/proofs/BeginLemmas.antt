@@ -1,8 +1,9 @@
 -- Where tokens begin in a text.
-use Rattle.std.proofs.Common.{◌≡◌, ℕ, zero, suc, ◌<◌, ◌&&◌, ◌||◌, ◌==◌, Bool, true, false, not, List, [], ◌∷◌, length, drop, inl, inr, refl, sym, ◌∙◌, arith}
+use Rattle.std.proofs.Common.{◌≡◌, ℕ, zero, suc, ◌<◌, ◌&&◌, ◌==◌, Bool, true, false, not, List, [], ◌∷◌, length, drop, inl, inr, refl, arith}
 use Rattle.std.specs.List.{list_all}
 use Rattle.std.proofs.lemmas.Bool.{cases_Bool, and_parts, and_from}
 use Rattle.std.proofs.lemmas.Bool.Decides.{nat_tests}
+use Rattle.cs_base.proofs.BoolLemmas.{not_both as clash}
 use Rattle.lexer.specs.Characters.{slash, is_white, is_word, is_quote}
 use Rattle.lexer.specs.Spelling.{may_follow, all_follow, begins_number, is_punctuator_text, punctuators_of_one, punctuators_of_two, punctuators_of_three, punctuators_of_four}
 use Rattle.lexer.proofs.TableLemmas.{punctuator-lacks}
@@ -79,9 +80,6 @@ follow_begins last [] h = refl
 follow_begins last (c ∷ cs) h =
     let both = and_parts (may_follow last c) (all_follow c cs) h in
     and_from (begins_token (c ∷ cs)) (begins_each cs) (token_begins c cs (follow_dark last c both.0) (follow_slash last c both.0)) (follow_begins c cs both.1)
-
-pub clash : (b : Bool) → b ≡ true → b ≡ false → ⊥
-clash b h k = let both : true ≡ false = sym h ∙ k in absurd (cc)
 
 -- each punctuator passes a test
 pub punctuator_has : (p : List ℕ → Bool) (text : List ℕ) → is_punctuator_text text ≡ true

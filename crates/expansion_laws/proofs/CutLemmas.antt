@@ -3,13 +3,14 @@ use Rattle.std.proofs.Common.{◌≡◌, ℕ, suc, ◌+◌, ◌<◌, Bool, List,
 use Rattle.std.specs.Prelude.{slice_get}
 use Rattle.std.proofs.lemmas.List.{length-map, map-append, take-map, drop-map, drop-drop}
 use Rattle.cs_base.specs.Token.{Token}
+use Rattle.cs_base.proofs.ListLemmas.{drop_at}
 use Rattle.line_shape.specs.Signs.{is_open, is_close, is_comma}
 use Rattle.macro_body.specs.Hides.{Hidden, toks_of, unhidden}
 use Rattle.macro_body.specs.Notes.{Expanded, put_out}
 use Rattle.macro_expand.specs.Expansion.{Setting, whole, expansion}
 use Rattle.list_cuts.specs.Cuts.{Cut, done, keep, list, Items, ended, item, count_of, span_of, AreOf, AreItemsOf}
 use Rattle.expansion_laws.specs.Arranging.{IsSign, SignsStand, ItemsSigned, IsMark, MarksStand, ItemsStand, RunsHaveCuts}
-use Rattle.expansion_laws.proofs.MarkLemmas.{parts_at, drop_at, toks_unhidden, hidden_at, at_seam, take_seam, drop_seam, drop_past}
+use Rattle.expansion_laws.proofs.MarkLemmas.{parts_at, toks_unhidden, hidden_at, at_seam, take_seam, drop_seam, drop_past}
 use Rattle.expansion_laws.proofs.SplitLemmas.{expansion_splits}
 
 -- A run falls at a sign of what it is expanded to.

@@ -7,7 +7,7 @@ use Rattle.cs_base.specs.Token.{Token}
 use Rattle.line_shape.specs.Signs.{is_name, is_open, is_close, is_comma}
 use Rattle.macro_body.specs.declared.definitions.Definition.{Definition}
 use Rattle.macro_body.specs.Hides.{Hidden, hidden, hide_more, unhidden, toks_of}
-use Rattle.macro_body.specs.Macro.{Table, is_function}
+use Rattle.macro_body.specs.Macro.{is_function}
 use Rattle.macro_expand.specs.Calls.{Call, Role, Closes, Separates, Belongs, role_of, level_after, fewer, with_token, with_argument, closed, call_step, call_from, commas_of, separates, arguments_of}
 use Rattle.macro_body.specs.Notes.{Fault, OpenCall, WrongArguments, Note, Expanded, expanded, put_out, noted, onward}
 use Rattle.macro_expand.specs.Expansion.{Setting, Next, one_more, stays, put_for, first_notes, replaced, added_by, called_with, called, behind_name, act, macro_of, whole}
@@ -15,12 +15,10 @@ use Rattle.macro_body.proofs.ResultLemmas.{ok_same, err_ok, onward_ok}
 use Rattle.macro_expand.proofs.CallLemmas.{option_map_is, AllWithin, none, Shorter, call_shorter, arguments_within}
 use Rattle.macro_expand.proofs.StepLemmas.{put_for_puts}
 use Rattle.macro_expand.proofs.WholeLemmas.{whole_below_itself, whole_is_step}
+use Rattle.macro_expand.proofs.PutOutLemmas.{no_macro}
 use Rattle.expansion_laws.specs.Ends.{FirstStays, LastStays, FirstPasses, LastPasses, NamesPass, ClosesPass, ExpansionsEndAlike}
 
 -- ---- no macro replaces a token that is no name
-
-no_macro : (table : Table) (t : Hidden) → is_name t.tok ≡ false → macro_of table t ≡ None
-no_macro table t h = rw h refl
 
 token_stays : (set : Setting) (depth before : ℕ) (t : Hidden) (ts : List Hidden) (work : ℕ) → is_name t.tok ≡ false
     → whole set depth before (t ∷ ts) work ≡ stays (whole set) depth before t ts work

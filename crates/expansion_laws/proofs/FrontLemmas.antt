@@ -6,13 +6,14 @@ use Rattle.std.proofs.lemmas.Bool.Decides.{nat_tests}
 use Rattle.cs_base.specs.declared.tokens.Kind.{Kind}
 use Rattle.cs_base.specs.declared.tokens.Kind.TheVariants.{Ident, Number, Char, Str, Punct, Header, Other}
 use Rattle.cs_base.specs.Token.{Token}
-use Rattle.lexer.specs.Characters.{line_feed, carriage_return, backslash, slash, star, is_white, begins}
+use Rattle.lexer.specs.Characters.{carriage_return, backslash, slash, star, is_white, begins}
 use Rattle.lexer.specs.Spelling.{kind_of, kind_in}
 use Rattle.lexer.specs.Logical.{Character, new_line_length, gone_length, logical_from, logical_of, spelling, line_at}
 use Rattle.lexer.specs.Tokens.{longest, front_length, kind_or_other, token_piece, piece_of, expects_header, with_token, is_line_start, Found, FoundToken, file_token, found_from, found_of}
 use Rattle.lexer.specs.OneToken.{free_kind, only_token, one_token_of}
 use Rattle.lexer.proofs.LogicalLemmas.{logical_from-stays}
 use Rattle.lexer.proofs.KindLemmas.{kind_in-plain}
+use Rattle.lexer.proofs.OrderLemmas.{dark_feed as dark_line}
 
 -- a text begins a token: neither white space stands first, nor a comment
 abbrev pub begins_token : List ℕ → Bool
@@ -24,9 +25,6 @@ and_three true true true h = (refl, refl, refl)
 and_three true true false h = absurd (cc)
 and_three true false c h = absurd (cc)
 and_three false b c h = absurd (cc)
-
-dark_line : (c : ℕ) → is_white c ≡ false → (c == line_feed) ≡ false
-dark_line c h = grind (arith, nat_tests)
 
 dark_return : (c : ℕ) → is_white c ≡ false → (c == carriage_return) ≡ false
 dark_return c h = grind (arith, nat_tests)

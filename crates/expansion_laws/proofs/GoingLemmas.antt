@@ -7,12 +7,14 @@ use Rattle.std.proofs.lemmas.List.Sums.{sum_by-cons}
 use Rattle.std.proofs.lemmas.List.Sorted.{sum_by-IsPermutation}
 use Rattle.std.proofs.Math.ListN as listn
 use Rattle.cs_base.specs.Token.{Token}
+use Rattle.cs_base.proofs.BoolLemmas.{and_false}
 use Rattle.line_shape.specs.Signs.{is_name, is_open}
 use Rattle.macro_body.specs.Hides.{Hidden, hidden, toks_of, unhidden}
 use Rattle.macro_body.specs.Notes.{Expanded, expanded}
 use Rattle.macro_expand.specs.Expansion.{Setting, whole}
 use Rattle.macro_expand.specs.Laws.{begins_open, is_callable, ends_callable, ExpandsInParts}
 use Rattle.macro_expand.proofs.WholeLemmas.{whole_is_step, whole_falls}
+use Rattle.macro_expand.proofs.PutOutLemmas.{no_macro as no_macro_of}
 use Rattle.list_cuts.specs.Cuts.{IsOrder, picked, woven}
 use Rattle.list_cuts.proofs.OrderLemmas.{picked_permutes}
 use Rattle.expansion_laws.specs.Alike.{unlined, label, unlined_hidden, canon, brings_no_line}
@@ -20,7 +22,6 @@ use Rattle.expansion_laws.specs.Arranging.{labels, bare}
 use Rattle.expansion_laws.proofs.AlikeLemmas.{expands_alike}
 use Rattle.expansion_laws.proofs.PortionLemmas.{ends_alike}
 use Rattle.expansion_laws.proofs.SectionLemmas.{sign_alone}
-use Rattle.expansion_laws.proofs.MarkLemmas.{no_macro_of}
 
 -- ---- labels
 
@@ -128,10 +129,6 @@ goes_sign set u t like lacks = λ before work room. record {
 -- no call reaches from these tokens to those behind them
 abbrev pub StandsApart : Bool → List Token → Type 0
 StandsApart shut behind = (shut ≡ true) ⊎ (begins_open (unhidden behind) ≡ false)
-
-and_false : (b : Bool) → (b && false) ≡ false
-and_false true = refl
-and_false false = refl
 
 pub ends_apart : (set : Setting) (hs : List Hidden) (shut : Bool) (behind : List Token) → (shut ≡ true → ends_callable set.table hs ≡ false) → StandsApart shut behind
     → (ends_callable set.table hs && begins_open (unhidden behind)) ≡ false

@@ -15,7 +15,7 @@ pub mod SpelledLaw
 -- The definition as one step, part by part, and under a renaming.
 pub mod FollowsLemmas
 mod GroundLemmas
-mod MadeLemmas
+pub mod MadeLemmas
 pub mod OriginLemmas
 mod PartLemmas
 mod PartsLemmas

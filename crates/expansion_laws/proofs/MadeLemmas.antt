@@ -1,8 +1,11 @@
 -- What a replacement puts in, under a renaming: the renamed tokens, and renamed notes.
-use Rattle.std.proofs.Common.{◌≡◌, Bool, true, false, cond, nat_lt, List, [], ◌∷◌, ◌++◌, length, map, get_or, Result, Ok, Err, refl, ap, subst, ◌∙◌}
+use Rattle.std.proofs.Common.{◌≡◌, Bool, true, false, nat_lt, List, [], ◌∷◌, ◌++◌, length, map, get_or, Result, Ok, Err, refl, ap, subst, ◌∙◌, ℕ}
+use Rattle.line_shape.specs.Signs.{is_identifier}
 use Rattle.cs_base.specs.Token.{Token}
-use Rattle.macro_body.specs.Below.paste_origin.Strings.{StringFault, NotAString as NoString, stringize_of, string_text, string_origins, string_token}
-use Rattle.lexer.specs.Spelling.{is_plain_string_text}
+use Rattle.cs_base.specs.declared.tokens.Kind.{Kind}
+use Rattle.cs_base.specs.declared.tokens.Kind.TheVariants.{Ident}
+use Rattle.macro_body.specs.Below.paste_origin.Strings.{StringFault, stringize_of, string_text, string_origins, string_token}
+use Rattle.lexer.specs.Spelling.{is_plain_string_text, is_identifier_text}
 use Rattle.macro_body.specs.declared.definitions.Definition.{Definition}
 use Rattle.macro_body.specs.Hides.{Hidden, hidden, toks_of}
 use Rattle.macro_body.specs.Bodies.{Part, Plain, Param, Quote, Paste, Rest, chains_of}
@@ -10,9 +13,11 @@ use Rattle.macro_body.specs.Notes.{Fault, Note, Stringized}
 use Rattle.macro_body.specs.Substitution.{Arguments, Made, made, put_in, string_made, operand_made, argument_for, rest_tokens, rest_for}
 use Rattle.macro_expand.specs.Renaming.{renamed, renamed_hidden, renamed_note, occurs, AllOccur, KeepsBody, AllRespected}
 use Rattle.macro_body.proofs.ResultLemmas.{ok_same, err_ok}
+use Rattle.macro_body.proofs.Below.paste_origin.MadeLemmas.{cond_made as string_kind}
 use Rattle.expansion_laws.proofs.RenamedLemmas.{renamed_part, renamed_lists, renamed_arguments, toks_of-renamed, get_or-renamed, tokens_for-renamed}
 use Rattle.expansion_laws.proofs.PartLemmas.{PartOccurs as PartFits, PartsOccur as PartsFit, ChainsOccur as ChainsFit, chains_of-occur as chains_of-fit}
 use Rattle.expansion_laws.proofs.WorldLemmas.{ground, World, Good, GoodLists, Good-get_or, Good-moved_in, Good-argument_for}
+use Rattle.expansion_laws.specs.Spelled.{fits}
 
 -- Notes.
 
@@ -65,18 +70,6 @@ GoodChains w (c ∷ cs) = GoodLists w c × GoodChains w cs
 abbrev pub IsMade : World → Made (List Hidden) → Result (Made (List Hidden)) Fault → Type 0
 IsMade w m res = (res ≡ Ok (made_renamed w m)) × Good w m.value
 
-string_kind : (b : Bool) (x s : Token) → ◌≡◌ {A = Result Token StringFault} (cond b (Ok x) (Err NoString)) (Ok s) → x ≡ s
-string_kind true x s e = ap value_of e
-  where
-    value_of : Result Token StringFault → Token
-    value_of (Ok t) = t
-    value_of (Err f) = x
-string_kind false x s e = absurd (subst IsErr e tt)
-  where
-    IsErr : Result Token StringFault → Type 0
-    IsErr (Ok t) = ⊥
-    IsErr (Err f) = Unit {0}
-
 -- a string occurs
 stringize-occurs : (w : World) (toks : List Token) (s : Token) → stringize_of toks ≡ Ok s → occurs w.o s ≡ true
 unfolding stringize_of
@@ -127,3 +120,7 @@ operand-renamed w name args g lone (Rest t i) here m e resp =
       ap (λ v. Ok (made v [])) (tokens_for-renamed w.r name args lone (Rest t i)),
       Good-rest w (nat_lt i (length args.raw)) name t (get_or args.raw i []) here (Good-get_or w args.raw i g.raw),
     )
+
+pub fits_name : (k : Kind) (text : List ℕ) → is_identifier k ≡ true → fits k text ≡ true → is_identifier_text text ≡ true
+fits_name Ident text h fit = fit
+fits_name _ text h fit = absurd (cc)

@@ -1,21 +1,19 @@
 -- A run splits at each mark of a list.
-use Rattle.std.proofs.Common.{◌≡◌, ℕ, zero, suc, ◌+◌, ◌&&◌, Bool, true, false, not, cond, List, [], ◌∷◌, ◌++◌, length, take, drop, codes, Some, None, Ok, refl, ap, sym, ◌∙◌, arith, append-nil}
+use Rattle.std.proofs.Common.{◌≡◌, ℕ, zero, suc, ◌+◌, Bool, true, false, List, [], ◌∷◌, ◌++◌, length, take, drop, codes, Some, None, Ok, refl, ap, sym, ◌∙◌, arith, append-nil}
 use Rattle.std.specs.Prelude.{slice_get}
-use Rattle.std.specs.Str.{bytes_eq}
 use Rattle.std.specs.Option.{option_map}
-use Rattle.std.proofs.lemmas.Bool.{and_parts}
 use Rattle.std.proofs.lemmas.List.{take-map, drop-map}
 use Rattle.std.proofs.lemmas.Option.{none-some, same_Some, slice_get-map}
-use Rattle.cs_base.specs.declared.tokens.Kind.{Kind}
-use Rattle.cs_base.specs.declared.tokens.Kind.TheVariants.{Ident}
 use Rattle.cs_base.specs.Token.{Token}
-use Rattle.line_shape.specs.Signs.{is_identifier, is_punctuator, is_name, is_sign, is_open, is_close, is_comma}
-use Rattle.macro_body.specs.Hides.{Hidden, hidden, hides_name, toks_of, unhidden}
+use Rattle.cs_base.proofs.ListLemmas.{drop_at, in_drop, in_take, take_at}
+use Rattle.line_shape.specs.Signs.{is_name, is_sign, is_open, is_close, is_comma}
+use Rattle.line_shape.proofs.SignLemmas.{sign-no_name, sign-no_sign}
+use Rattle.macro_body.specs.Hides.{Hidden, hidden, toks_of, unhidden}
 use Rattle.macro_body.specs.Macro.{Table}
 use Rattle.macro_body.specs.Notes.{Note, Expanded, expanded, put_out}
 use Rattle.macro_expand.specs.Expansion.{Setting, macro_of, whole}
 use Rattle.macro_expand.specs.Laws.{is_callable, ends_callable}
-use Rattle.cs_base.proofs.FileMapLemmas.{bytes_eq-equal}
+use Rattle.macro_expand.proofs.PutOutLemmas.{no_macro as no_macro_of}
 use Rattle.expansion_laws.specs.Arranging.{IsMark, AreDistinct}
 use Rattle.expansion_laws.proofs.SplitLemmas.{expansion_splits}
 use Rattle.expansion_laws.proofs.SectionLemmas.{sign_alone}
@@ -31,16 +29,6 @@ pub length_at : {X : Type 0} (xs : List X) (k : ℕ) (x : X) → slice_get xs k 
 length_at [] k x is = absurd (none-some x is)
 length_at (y ∷ ys) zero x is = refl
 length_at (y ∷ ys) (suc k) x is = ap (λ (n : ℕ). suc n) (length_at ys k x is)
-
-pub drop_at : {X : Type 0} (xs : List X) (k : ℕ) (x : X) → slice_get xs k ≡ Some x → drop k xs ≡ x ∷ drop (suc k) xs
-drop_at [] k x is = absurd (none-some x is)
-drop_at (y ∷ ys) zero x is = ap (λ (v : _). v ∷ ys) (same_Some y x is)
-drop_at (y ∷ ys) (suc k) x is = drop_at ys k x is
-
-pub take_at : {X : Type 0} (xs : List X) (k : ℕ) (x : X) → slice_get xs k ≡ Some x → take (suc k) xs ≡ take k xs ++ x ∷ []
-take_at [] k x is = absurd (none-some x is)
-take_at (y ∷ ys) zero x is = ap (λ (v : _). v ∷ []) (same_Some y x is)
-take_at (y ∷ ys) (suc k) x is = ap (λ (l : List _). y ∷ l) (take_at ys k x is)
 
 pub at_seam : {X : Type 0} (xs ys : List X) (x : X) → slice_get (xs ++ x ∷ ys) (length xs) ≡ Some x
 at_seam [] ys x = refl
@@ -61,17 +49,6 @@ drop_past (y ∷ xs) ys x = drop_past xs ys x
 take_past : {X : Type 0} (xs ys : List X) (x : X) → take (suc (length xs)) (xs ++ x ∷ ys) ≡ xs ++ x ∷ []
 take_past [] ys x = refl
 take_past (y ∷ xs) ys x = ap (λ (l : List _). y ∷ l) (take_past xs ys x)
-
-in_take : {X : Type 0} (n i : ℕ) (xs : List X) (x : X) → slice_get (take n xs) i ≡ Some x → slice_get xs i ≡ Some x
-in_take zero i xs x is = absurd (none-some x is)
-in_take (suc n) i [] x is = absurd (none-some x is)
-in_take (suc n) zero (y ∷ ys) x is = is
-in_take (suc n) (suc i) (y ∷ ys) x is = in_take n i ys x is
-
-in_drop : {X : Type 0} (n i : ℕ) (xs : List X) (x : X) → slice_get (drop n xs) i ≡ Some x → slice_get xs (n + i) ≡ Some x
-in_drop zero i xs x is = let same : 0 + i ≡ i = omega arith in rw same is
-in_drop (suc n) i [] x is = absurd (none-some x is)
-in_drop (suc n) i (y ∷ ys) x is = let on : suc n + i ≡ suc (n + i) = omega arith in rw on (in_drop n i ys x is)
 
 pub distinct_take : (n : ℕ) (run : List Token) → AreDistinct run → AreDistinct (take n run)
 distinct_take n run d = λ i j t one two. d i j t (in_take n i run t one) (in_take n j run t two)
@@ -95,31 +72,9 @@ hidden_at (h ∷ hs) (suc k) t is = hidden_at hs k t is
 
 -- ---- signs
 
-kinds_apart : (k : Kind) → is_punctuator k ≡ true → is_identifier k ≡ false
-kinds_apart Ident h = absurd cc
-kinds_apart _ h = refl
-
-pub sign-no_name : (spelling : List ℕ) (t : Token) → is_sign spelling t ≡ true → is_name t ≡ false
-sign-no_name spelling t h = kinds_apart t.kind ((and_parts (is_punctuator t.kind) (bytes_eq t.text spelling) h).0)
-
--- a sign is no other sign
-sign-no_sign : (spelling other : List ℕ) (t : Token) → is_sign spelling t ≡ true → bytes_eq spelling other ≡ false → is_sign other t ≡ false
-sign-no_sign spelling other t h apart =
-    let both = and_parts (is_punctuator t.kind) (bytes_eq t.text spelling) h in
-    let is : t.text ≡ spelling = bytes_eq-equal t.text spelling both.1 in
-    rw (both.0, is) apart
-
 pub open-no_name : (t : Token) → is_open t ≡ true → is_name t ≡ false
 unfolding is_open
 open-no_name t h = sign-no_name (codes "(") t h
-
-pub close-no_name : (t : Token) → is_close t ≡ true → is_name t ≡ false
-unfolding is_close
-close-no_name t h = sign-no_name (codes ")") t h
-
-pub comma-no_name : (t : Token) → is_comma t ≡ true → is_name t ≡ false
-unfolding is_comma
-comma-no_name t h = sign-no_name (codes ",") t h
 
 pub close-no_open : (t : Token) → is_close t ≡ true → is_open t ≡ false
 unfolding is_close is_open
@@ -128,10 +83,6 @@ close-no_open t h = sign-no_sign (codes ")") (codes "(") t h refl
 pub comma-no_open : (t : Token) → is_comma t ≡ true → is_open t ≡ false
 unfolding is_comma is_open
 comma-no_open t h = sign-no_sign (codes ",") (codes "(") t h refl
-
--- no macro replaces what is no name
-pub no_macro_of : (table : Table) (h : Hidden) → is_name h.tok ≡ false → macro_of table h ≡ None
-no_macro_of table h lacks = ap (λ (b : Bool). cond (b && not (hides_name h.hides h.tok.text)) (table h.tok.text) None) lacks
 
 pub ends_sign : (table : Table) (hs : List Hidden) (h : Hidden) → macro_of table h ≡ None → ends_callable table (hs ++ h ∷ []) ≡ false
 ends_sign table [] h is = ap is_callable is

@@ -16,6 +16,7 @@ use Rattle.macro_body.proofs.ResultLemmas.{ok_same, err_ok, onward_ok}
 use Rattle.macro_expand.proofs.CallLemmas.{option_map_is, AllWithin, none, Shorter, call_shorter, arguments_within}
 use Rattle.macro_expand.proofs.StepLemmas.{put_for_puts}
 use Rattle.macro_expand.proofs.WholeLemmas.{whole_below_itself, whole_is_step}
+use Rattle.macro_expand.proofs.PutOutLemmas.{count_later, count_none}
 
 -- Calls with more tokens behind them.
 
@@ -58,14 +59,6 @@ JoinsBelow set ys b = (depth before : ℕ) (xs : List Hidden) (work : ℕ) (x : 
 ends_later : (table : Table) (t : Hidden) (ts ys : List Hidden) → (ends_callable table (t ∷ ts) && begins_open ys) ≡ false → (ends_callable table ts && begins_open ys) ≡ false
 ends_later table t [] ys h = refl
 ends_later table t (u ∷ us) ys h = h
-
-count_later : (depth before n : ℕ) → put_out_after depth before (suc n) ≡ put_out_after depth (one_more depth before) n
-count_later zero before n = omega arith
-count_later (suc depth) before n = refl
-
-count_none : (depth before : ℕ) → put_out_after depth before 0 ≡ before
-count_none zero before = omega arith
-count_none (suc depth) before = refl
 
 stays_joins : (set : Setting) (ys : List Hidden) (b : ℕ) → JoinsBelow set ys b → (depth before : ℕ) (t : Hidden) (xs : List Hidden) (work : ℕ) (x : Expanded)
     → work + length xs < b → stays (whole set) depth before t xs work ≡ Ok x → Joins set depth before ys x (stays (whole set) depth before t (xs ++ ys) work)

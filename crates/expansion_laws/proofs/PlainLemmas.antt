@@ -6,6 +6,7 @@ use Rattle.cs_base.specs.declared.positions.Pos.{Pos}
 use Rattle.cs_base.specs.declared.tokens.Kind.{Kind}
 use Rattle.cs_base.specs.declared.tokens.Kind.TheVariants.{Str}
 use Rattle.cs_base.specs.Token.{Token, token}
+use Rattle.cs_base.proofs.OptionLemmas.{ok_same as value_same}
 use Rattle.macro_body.specs.Below.paste_origin.Pasting.{PasteFault, joined, pasted_as, glue_of}
 use Rattle.lexer.specs.OneToken.{one_token_of}
 use Rattle.lexer.specs.Places.{pos}
@@ -16,7 +17,7 @@ use Rattle.macro_body.specs.Hides.{Hidden, hidden, toks_of, in_both}
 use Rattle.macro_body.specs.Bodies.{Part, Plain, Param, Quote, Paste, Rest}
 use Rattle.macro_body.specs.Notes.{Fault, TooMuchWork, Note, Stringized, Pasted, onward}
 use Rattle.macro_body.specs.Substitution.{Arguments, Made, made, made_both, put_in, moved_in, with_gap, argument_for, rest_tokens, tokens_for, part_cost, parts_cost, chains_cost, cost_of, is_alone, string_made, operand_made, operands_made, chains_made, token_pasted, pasted_behind, two_pasted, chain_pasted, chains_pasted, result_of}
-use Rattle.expansion_laws.specs.Alike.{kept_place, kept_origins, kept}
+use Rattle.expansion_laws.specs.Alike.{kept_origins, kept}
 use Rattle.expansion_laws.specs.Alike as alike
 
 -- ---- origins
@@ -43,9 +44,6 @@ kept_both false xs ys = refl
 abbrev pub mapped : (far : Bool) {A B : Type 0} → (A → B) → Result (Made A) Fault → Result (Made B) Fault
 mapped far f (Ok m) = Ok (made (f m.value) (map (alike.plain_note far) m.notes))
 mapped far f (Err x) = Err (TooMuchWork (pos 0 0))
-
-value_same : {C D : Type 0} (x y : C) → ◌≡◌ {A = Result C D} (Ok x) (Ok y) → x ≡ y
-value_same x y e = cc
 
 -- what is made of the one is made of the other
 pub mapped_ok : (far : Bool) {A B : Type 0} (f : A → B) (r : Result (Made A) Fault) (b : Made B) → mapped far f r ≡ Ok b

@@ -6,13 +6,14 @@ use Rattle.std.proofs.lemmas.Bool.{cases_Bool, eqb-true, and_parts, and_from, no
 use Rattle.cs_base.specs.declared.tokens.Kind.{Kind}
 use Rattle.cs_base.specs.declared.tokens.Kind.TheVariants.{Ident, Number, Char, Str, Punct, Header, Other}
 use Rattle.cs_base.specs.Token.{has_origins}
+use Rattle.cs_base.proofs.BoolLemmas.{not_both as clash}
 use Rattle.lexer.specs.Characters.{less_than, slash, star, double_quote, capital_l, is_white, is_nondigit, is_digit, is_word, is_quote, begins}
 use Rattle.lexer.specs.Spelling.{is_identifier_text, all_follow, begins_number, is_number_text, is_punctuator_text, kind_of}
 use Rattle.lexer.proofs.LocalLemmas.{nondigit-word}
 use Rattle.lexer.proofs.KindLemmas.{quote-word}
 use Rattle.expansion_laws.specs.Spelled.{quote_first, begins_quoted, is_lone, fits}
 use Rattle.expansion_laws.proofs.FrontLemmas.{begins_token}
-use Rattle.expansion_laws.proofs.BeginLemmas.{word_dark, word_slash, begins_dark, begins_slash, token_begins, begins_each, words_begin, follow_begins, clash, punctuator_has, signs_begin}
+use Rattle.expansion_laws.proofs.BeginLemmas.{word_dark, word_slash, begins_dark, begins_slash, token_begins, begins_each, words_begin, follow_begins, punctuator_has, signs_begin}
 use Rattle.expansion_laws.proofs.TextKindLemmas.{double_is, kind_exact, identifier_kind, number_kind, sign_kind, some_kind, exact_slash, exact_star, alone}
 
 -- ---- shapes

@@ -1,10 +1,11 @@
 -- Tokens that are spelled as their kind says stay so when they are pasted.
-use Rattle.std.proofs.Common.{◌≡◌, ℕ, zero, suc, ◌+◌, ◌-◌, ◌≤◌, ◌&&◌, ◌==◌, Bool, true, false, not, List, [], ◌∷◌, ◌++◌, length, take, drop, Some, None, is_some, ◌⊎◌, inl, inr, refl, sym, ap, ◌∙◌, subst, arith, length-append}
+use Rattle.std.proofs.Common.{◌≡◌, ℕ, zero, suc, ◌+◌, ◌-◌, ◌≤◌, ◌==◌, true, false, not, List, [], ◌∷◌, ◌++◌, length, take, drop, Some, None, is_some, ◌⊎◌, inl, inr, refl, sym, ap, ◌∙◌, subst, arith, length-append}
 use Rattle.std.specs.Prelude.{codes}
 use Rattle.std.proofs.lemmas.Bool.{cases_Bool, cases_lt, eqb-true, and_parts}
 use Rattle.std.proofs.lemmas.Bool.Decides.{nat_tests}
 use Rattle.std.proofs.Math.Seq.{take-append_seam}
 use Rattle.cs_base.specs.declared.tokens.Kind.{Kind}
+use Rattle.cs_base.proofs.BoolLemmas.{not_both as clash}
 use Rattle.lexer.specs.Characters.{carriage_return, backslash, less_than, slash, star, capital_l, is_white, is_quote, begins}
 use Rattle.lexer.specs.Spelling.{kind_of}
 use Rattle.lexer.specs.Logical.{logical_from, logical_of, gone_length, spelling}
@@ -13,7 +14,7 @@ use Rattle.lexer.specs.OneToken.{one_token_of}
 use Rattle.lexer.proofs.LogicalLemmas.{logical_from-stays}
 use Rattle.expansion_laws.specs.Spelled.{fits}
 use Rattle.expansion_laws.proofs.FrontLemmas.{begins_token, OneFront, is_dark, stays, logical_behind, logical_plain, one_front}
-use Rattle.expansion_laws.proofs.BeginLemmas.{quote_token, begins_each, each_begins, begins_each-dark, clash, quote_slash}
+use Rattle.expansion_laws.proofs.BeginLemmas.{quote_token, begins_each, each_begins, begins_each-dark, quote_slash}
 use Rattle.expansion_laws.proofs.TextKindLemmas.{quote_fits, wide_fits, less_fits, inner_fits, inner_less_fits, kind_fits}
 use Rattle.expansion_laws.proofs.ShapeLemmas.{IsSolid, Shape, Solid, Quoted, Wide, Less, shape_of, slash_token, star_token}
 

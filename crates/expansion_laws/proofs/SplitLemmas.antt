@@ -16,6 +16,7 @@ use Rattle.macro_body.proofs.ResultLemmas.{ok_same, err_ok, onward_ok}
 use Rattle.macro_expand.proofs.CallLemmas.{option_map_is, AllWithin, none, Shorter, call_shorter, arguments_within}
 use Rattle.macro_expand.proofs.StepLemmas.{put_for_puts}
 use Rattle.macro_expand.proofs.WholeLemmas.{whole_below_itself, whole_is_step}
+use Rattle.macro_expand.proofs.PutOutLemmas.{count_later, count_none}
 use Rattle.expansion_laws.proofs.ListLemmas.{AllHidden, hidden_more}
 use Rattle.expansion_laws.specs.Splitting.{both, Splits, ExpansionSplits}
 use Rattle.expansion_laws.proofs.PutLemmas.{IsPut, put_for_put}
@@ -81,14 +82,6 @@ put_apart (u ∷ us) ts (x ∷ xs) ys t h d e =
     (k.0, ap (λ (l : List Hidden). x ∷ l) k.1 ∙ ap (λ (v : Hidden). v ∷ (us ++ k.0)) same, k.2)
 
 -- ---- counts
-
-count_later : (depth before n : ℕ) → put_out_after depth before (suc n) ≡ put_out_after depth (one_more depth before) n
-count_later zero before n = omega arith
-count_later (suc depth) before n = refl
-
-count_none : (depth before : ℕ) → put_out_after depth before 0 ≡ before
-count_none zero before = omega arith
-count_none (suc depth) before = refl
 
 -- ---- the law
 

@@ -1,18 +1,15 @@
 -- What the notes of an expansion tell did happen.
-use Rattle.std.proofs.Common.{◌≡◌, ℕ, Bool, true, false, cond, List, Result, Ok, Err, refl, sym, ap}
+use Rattle.std.proofs.Common.{◌≡◌, Bool, List, Ok, refl, sym, ap}
 use Rattle.cs_base.specs.Token.{Token}
 use Rattle.lexer.specs.Spelling.{is_plain_string_text}
-use Rattle.macro_body.specs.Below.paste_origin.Strings.{StringFault, NotAString, stringize_of, string_text, string_origins, string_token}
+use Rattle.macro_body.specs.Below.paste_origin.Strings.{stringize_of, string_text, string_origins, string_token}
 use Rattle.macro_body.specs.Notes.{Note, Linked}
+use Rattle.macro_body.proofs.Below.paste_origin.MadeLemmas.{cond_made}
 use Rattle.macro_expand.specs.Expansion.{Setting}
 use Rattle.expansion_laws.specs.Telling.{StandUnderNames, AreAlike, LinksAreAlike, DidHappen, NotesAreTrue}
 use Rattle.expansion_laws.proofs.ListLemmas.{AllToks, each_tok, notes_at, all_notes}
 use Rattle.expansion_laws.proofs.RuleLemmas.{Rules}
 use Rattle.expansion_laws.proofs.ClosureLemmas.{expansion_keeps}
-
-cond_made : (b : Bool) (a s : Token) → ◌≡◌ {A = Result Token StringFault} (cond b (Ok a) (Err NotAString)) (Ok s) → a ≡ s
-cond_made true a s e = cc
-cond_made false a s e = absurd (cc)
 
 -- the string that tokens make
 pub string_is : (toks : List Token) (s : Token) → stringize_of toks ≡ Ok s → s ≡ string_token (string_text toks) (string_origins toks)

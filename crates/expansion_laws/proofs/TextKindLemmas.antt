@@ -6,6 +6,7 @@ use Rattle.std.specs.Str.{bytes_eq}
 use Rattle.std.proofs.lemmas.Bool.{cases_Bool, and_parts}
 use Rattle.std.proofs.Math.Bool.{or-true}
 use Rattle.cs_base.proofs.FileMapLemmas.{bytes_eq-equal}
+use Rattle.cs_base.proofs.BoolLemmas.{not_both as clash}
 use Rattle.cs_base.specs.declared.tokens.Kind.{Kind}
 use Rattle.cs_base.specs.declared.tokens.Kind.TheVariants.{Ident, Number, Char, Str, Punct, Header, Other}
 use Rattle.lexer.specs.Characters.{less_than, slash, star, single_quote, double_quote, capital_l, is_nondigit, is_word, is_quote, begins}
@@ -13,7 +14,7 @@ use Rattle.lexer.specs.Spelling.{is_identifier_text, may_follow, all_follow, beg
 use Rattle.lexer.proofs.TableLemmas.{punctuator-lacks, nondigit-punctuator, quote-punctuator}
 use Rattle.lexer.proofs.KindLemmas.{quote-word, quote-number, quote-nondigit}
 use Rattle.expansion_laws.specs.Spelled.{quote_first, begins_quoted, fits}
-use Rattle.expansion_laws.proofs.BeginLemmas.{quote_follow, clash, punctuator_has}
+use Rattle.expansion_laws.proofs.BeginLemmas.{quote_follow, punctuator_has}
 
 -- ---- kinds of texts
 

@@ -1,26 +1,27 @@
 -- The file tokens as a set: tokens that are added one after another.
-use Rattle.std.proofs.Common.{◌≡◌, ℕ, zero, suc, ◌+◌, ◌<◌, ◌≤◌, Bool, true, false, ◌||◌, ◌&&◌, cond, List, [], ◌∷◌, ◌++◌, Option, None, Some, Result, Ok, Err, length, get_or, take, drop, slice_get, refl, sym, ap, ◌∙◌, subst}
-use Rattle.std.specs.Prelude.{MatchBool, OnOk, filter, map, nat_eq}
-use Rattle.std.specs.List.{flat_map, list_any}
+use Rattle.std.proofs.Common.{◌≡◌, ℕ, ◌+◌, ◌<◌, ◌≤◌, Bool, true, false, ◌||◌, ◌&&◌, cond, List, [], ◌∷◌, ◌++◌, Option, None, Some, Result, Ok, Err, length, get_or, take, drop, slice_get, refl, sym, ap, ◌∙◌, subst}
+use Rattle.std.specs.Prelude.{MatchBool, OnOk, filter, nat_eq}
+use Rattle.std.specs.List.{list_any}
 use Rattle.std.specs.Option.{option_map, option_map_or}
 use Rattle.std.proofs.Math.Bool.{or_assoc, or-false}
 use Rattle.std.proofs.lemmas.Bool.{eq-eqb, eqb-true, and_parts}
-use Rattle.std.proofs.lemmas.List.{at_drop_more, at_drop_all, take_more, take_all}
+use Rattle.std.proofs.lemmas.List.{at_drop_all, take_more}
 use Rattle.std.proofs.lemmas.List.Elements.{filter-append}
 use Rattle.std.proofs.lemmas.List.Folds.{list_any-append}
-use Rattle.std.proofs.lemmas.Option.{none-some, same_Some, slice_get-get_or, slice_get-map}
+use Rattle.std.proofs.lemmas.Option.{none-some, same_Some, slice_get-map}
 use Rattle.cs_base.specs.declared.positions.Part.{Part}
-use Rattle.cs_base.specs.declared.positions.Pos.{Pos}
 use Rattle.cs_base.specs.Token.{Token, has_origins}
-use Rattle.analysis.specs.Below.source_files.Files.{Entry, Table, Absent, entry}
+use Rattle.cs_base.proofs.ListLemmas.{any_at as any_from}
+use Rattle.cs_base.proofs.PlaceLemmas.{part_of_parts}
+use Rattle.analysis.specs.Below.source_files.Files.{Table}
 use Rattle.analysis.specs.Below.source_files.KeptFiles.{kept_at}
-use Rattle.analysis.specs.Analysis.{AnalysisValue, UnitAnalysis}
+use Rattle.analysis.specs.Analysis.{AnalysisValue}
 use Rattle.analysis.specs.BroughtNumbers.{all_brought}
 use Rattle.analysis.specs.FileTokens.{IsFileToken, file_tokens, kept_tokens, span_of, table_tokens}
+use Rattle.analysis.proofs.TableLemmas.{parted-more as table_more}
 use Rattle.class_marks.proofs.AnswerLemmas.{told}
 use Rattle.class_marks.proofs.RoleLemmas.{some_passes}
 use Rattle.unused_names.proofs.LineLemmas.{or_cond}
-use Rattle.analysis.proofs.PlaceNameLemmas.{any_from}
 use Rattle.find_names.specs.FileTokens.{is_part, is_span}
 
 -- ---- tests
@@ -28,12 +29,6 @@ use Rattle.find_names.specs.FileTokens.{is_part, is_span}
 -- the set with one part more
 pub put_more : (old new put : Bool) → new ≡ cond put true old → new ≡ (old || put)
 put_more old new put is = is ∙ or_cond put old
-
-part_of_parts : (p q : Part) → p.start.file ≡ q.start.file → p.start.at ≡ q.start.at → p.len ≡ q.len → p ≡ q
-part_of_parts p q e f g =
-    ap (λ (n : ℕ). record { start = record { file = n; at = p.start.at }; len = p.len }) e
-    ∙ ap (λ (n : ℕ). record { start = record { file = q.start.file; at = n }; len = p.len }) f
-    ∙ ap (λ (n : ℕ). record { start = q.start; len = n }) g
 
 pub same_part : (p q : Part) → is_part p q ≡ true → p ≡ q
 same_part p q passed =
@@ -85,14 +80,6 @@ pub parted_none : (part : Part) (t : Token) (old new : Bool) → has_origins t.k
 parted_none part t old new has is = is ∙ sym (or-false old) ∙ rw has refl
 
 -- ---- files
-
-table_more : (table : Table) (k : ℕ) → k < length table
-    → table_tokens k (drop k table) ≡ option_map_or kept_tokens (kept_at table k) [] ++ table_tokens (k + 1) (drop (k + 1) table)
-unfolding table_tokens
-table_more table k within =
-    let d : Entry = entry [] Absent in
-    let found = slice_get-get_or table k d within in
-    at_drop_more (table_tokens k) table k d within ∙ rw found refl
 
 pub files_more : (part : Part) (table : Table) (k : ℕ) (now new whole : Bool) → k < length table
     → (now || list_any (is_span part) (table_tokens k (drop k table))) ≡ whole

@@ -3,8 +3,10 @@ ghost use Rattle.std.specs.Prelude.{◌≡◌, ◌<◌, ◌^◌, ◌++◌, Ok, E
 ghost use Rattle.analysis.specs.Parts.{AreMembers, IsFirst, IsPart};
 ghost use Rattle.analysis.specs.Spellings.{spelling_of};
 ghost use Rattle.query_words.specs.Grammar.{Alternatives, Derives, IsRead};
-ghost use Rattle.query_words.specs.Queries.{Query};
+ghost use Rattle.query_words.specs.Queries.{Query, value};
 ghost use Rattle.query_words.specs.Reading.{depth_limit, parsed};
+ghost use Rattle.query_words.specs.Telling.{AreTold};
+ghost use Rattle.query_words.specs.Walk.{decided};
 ghost use Rattle.find_names.specs.FileTokens.{AreFileTokens};
 ghost use Rattle.find_names.specs.Found.{IsFound, found_line, PrintsFound, PrintsLine, Refuses};
 ghost use Rattle.find_names.specs.Refusals.{fault_of};
@@ -18,14 +20,42 @@ use crate::role_marks::{RoleMarks, role_marks};
 use analysis::{Analysis, push_place};
 use cs_base::{Memory, Part};
 use itoa::Buffer;
-use query_words::{Facts, satisfies};
+use query_words::{Facts, Told, satisfies};
 use std::alloc::Global;
+
+// Whether the query says so of these attributes and the spelling of a class.
+fn is_said(
+    a: &Analysis,
+    told: &mut Told,
+    query: &[u8],
+    facts: &Facts,
+    part: Part,
+    places: &mut [bool],
+) -> Result<bool, FindRefusal>
+    requires few { length query.now < 2 ^ 32 }
+    requires room { length query.now < length places.old }
+    requires part { IsPart a.now.value part }
+    requires told { AreTold query.now told.old }
+    ensures told { OnOk result (AreTold query.now told.new) }
+    ensures answer { IfOk result (λ holds. Ok holds ≡ decided (value facts.now (spelling_of a.now.value part)) (parsed query.now)) }
+    ensures refused { IfErr result (Refuses query.now) }
+{
+    match told.known(facts) {
+        Some(holds) => Ok(holds),
+        None => {
+            let holds = satisfies(query, facts, a.spelling(part), places)?;
+            told.remember(facts, holds)?;
+            Ok(holds)
+        }
+    }
+}
 
 // Whether the class of a first member is in question and satisfies the query.
 fn is_found(
     a: &Analysis,
     marks: &RoleMarks,
     tokens: &FileTokens,
+    told: &mut Told,
     query: &[u8],
     part: Part,
     places: &mut [bool],
@@ -35,12 +65,14 @@ fn is_found(
     requires first { IsFirst a.now.value part }
     requires marks { AreRoleMarks a.now marks.now }
     requires tokens { AreFileTokens a.now.value tokens.now }
+    requires told { AreTold query.now told.old }
+    ensures told { OnOk result (AreTold query.now told.new) }
     ensures answer { IfOk result (λ b. (q : Query) → parsed query.now ≡ Ok q
         → MatchBool b (IsFound a.now.value q part) (IsFound a.now.value q part → ⊥)) }
     ensures refused { IfErr result (Refuses query.now) }
 {
     let facts = facts_of(a, marks, tokens, part);
-    let satisfied = satisfies(query, &facts, a.spelling(part), places)?;
+    let satisfied = is_said(a, told, query, &facts, part, places)?;
     if !satisfied {
         return Ok(false);
     }
@@ -89,9 +121,10 @@ fn lines(
     ensures refused { IfErr result (Refuses query.now) }
 {
     let firsts = a.firsts();
+    let mut told = Told::of(alloc, query);
     let mut text = Vec::new(alloc);
     for part in firsts {
-        let found = is_found(a, marks, tokens, query, *part, places)?;
+        let found = is_found(a, marks, tokens, &mut told, query, *part, places)?;
         if found {
             push_line(&mut text, a, *part)?;
         }

@@ -6,7 +6,8 @@
 //! question in `specs/Question.antt`. How a query is read belongs to `query_words`, which classes a name touches to
 //! `class_marks`, what is unused to `unused_names`. Refused is a word that is no query, by its first fault; want of
 //! memory is answered `Memory`, and so is a query of 2^32 bytes or more. It costs one walk over all names for each kind
-//! of entity, one over the tokens of all files, and one over the members of all classes. Read the three files, then
+//! of entity, one over the tokens of all files, and one over the members of all classes. The query is read for each
+//! class; one that asks for no spelling, once for all classes with the same attributes. Read the three files, then
 //! `found_classes.rt`.
 #![tactic(auto)]
 

@@ -1,10 +1,10 @@
 -- What is known behind a part of a text goes along with its tokens.
-use Rattle.std.proofs.Common.{ℕ, zero, suc, ◌+◌, ◌-◌, ◌<◌, ◌≤◌, ◌≡◌, ◌⊎◌, Bool, true, false, ◌&&◌, not, if◌then◌else◌, ◌==◌, nat_lt, List, [], ◌∷◌, length, slice_get, Option, None, Some, inl, inr, refl, sym, ap, subst, ◌∙◌, arith}
-use Rattle.std.specs.Option.{option_map, option_map_or}
+use Rattle.std.proofs.Common.{ℕ, ◌+◌, ◌-◌, ◌<◌, ◌≤◌, ◌≡◌, ◌⊎◌, true, false, if◌then◌else◌, nat_lt, List, [], length, inl, inr, refl, sym, ap, ◌∙◌, arith}
+use Rattle.std.specs.Option.{option_map_or}
 use Rattle.std.proofs.lemmas.Bool.{cases_Bool, ltb-true, ltb-false, lt-ltb, le-ltb}
 use Rattle.cs_base.specs.Token.{Token}
+use Rattle.cs_base.proofs.PlaceLemmas.{nothing_at as past_end}
 use Rattle.c99_tree.specs.Tree.{Forest, none, token, node}
-use Rattle.c99_tree.specs.declared.production.Label.{Label}
 use Rattle.c_types.specs.declared.entity.EntityKind.TheVariants.{Parameter}
 use Rattle.c_types.specs.declared.frames.Position.{Position}
 use Rattle.c_types.specs.Types.{CType, arithmetic, target_of}
@@ -17,7 +17,7 @@ use Rattle.scope_bind.specs.Named.{Frame, Role, by_role}
 use Rattle.scope_bind.specs.Ordinary.{plain_name}
 use Rattle.scope_bind.specs.Roles.{role_of}
 use Rattle.scope_bind.specs.Walk.{facts_at, found_at, position_at, passed_as, passed, left, walked}
-use Rattle.reordered_tree_laws.specs.Moving.{moved_type, AreMovedTexts}
+use Rattle.reordered_tree_laws.specs.Moving.{moved_type}
 use Rattle.reordered_tree_laws.proofs.MovedTypes.{type_if, target_moved}
 use Rattle.front_laws.specs.Carried.{carried_facts, carried_frame, carried_state, AreCarried, IsBelow, behind_front}
 use Rattle.front_laws.specs.Laws.{FrontsBindAlike}
@@ -160,11 +160,6 @@ module _ (n k : ℕ) (fits : n ≤ k) where
     | inl e ↦ lt-ltb (placed i) (placed j) (less_there i j (ltb-true i j e)) ∙ sym e
     | inr e ↦ le-ltb (placed i) (placed j) (no_less_there i j (ltb-false i j e)) ∙ sym e
   ]
-
-past_end : (xs : List Token) (i : ℕ) → length xs ≤ i → slice_get xs i ≡ None
-past_end [] i e = refl
-past_end (x ∷ xs) zero e = absurd (omega (arith, e))
-past_end (x ∷ xs) (suc i) e = past_end xs i (omega (arith, e))
 
 nothing_there : (xs : List Token) (i : ℕ) → length xs ≤ i → spelling_at xs i ≡ []
 nothing_there xs i e = ap (λ o. option_map_or (λ t. t.text) o []) (past_end xs i e)

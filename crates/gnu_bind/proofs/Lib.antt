@@ -3,3 +3,5 @@ mod AloneLemmas
 mod WalkLemmas
 mod BoundLemmas
 mod StandardLemmas
+pub mod Below
+mod JoinedLemmas

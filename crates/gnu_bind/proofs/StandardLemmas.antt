@@ -4,6 +4,7 @@ use Rattle.std.specs.Option.{option_map_or, option_or}
 use Rattle.std.proofs.lemmas.Bool.{false≢true, and_parts}
 use Rattle.cs_base.specs.Token.{Token}
 use Rattle.cs_base.specs.declared.ws_units.Standard.TheVariants.{C99, C11, Gnu99, Gnu11}
+use Rattle.cs_base.proofs.BoolLemmas.{and_false, not_true, or_left, or_right_none as or_right}
 use Rattle.c99_tree.specs.Tree.{Forest, none, token, node}
 use Rattle.c99_tree.specs.declared.production.Label.{Label}
 use Rattle.c99_tree.specs.declared.production.Production.{Production}
@@ -37,22 +38,6 @@ use Rattle.gnu_bind.specs.Alone.{is_attribute, has_other, is_one_specifier, is_l
 use Rattle.gnu_bind.specs.Walk.{type_in, has_braces, begun, read_as, facts_ended, ended, walked}
 use Rattle.gnu_bind.specs.Bound.{gnu_binding_of}
 use Rattle.gnu_bind.specs.Standards.{HasNoWord, is_shared, is_token_place, is_child, is_old, has_some, is_unextended, has_block, is_form, is_filled, is_standard, StandardTextsBindAlike, StandardsBindAlike}
-
-not_true : (b : Bool) → not b ≡ true → b ≡ false
-not_true true e = absurd (false≢true e)
-not_true false e = refl
-
-and_false : (b : Bool) → (b && false) ≡ false
-and_false true = refl
-and_false false = refl
-
-or_left : (a b : Bool) → (a || b) ≡ false → a ≡ false
-or_left true b e = e
-or_left false b e = refl
-
-or_right : (a b : Bool) → (a || b) ≡ false → b ≡ false
-or_right true b e = absurd (false≢true (sym e))
-or_right false b e = e
 
 usual_either : (c : Bool) → special_if c usual ≡ usual
 usual_either true = refl

@@ -26,7 +26,7 @@ mod types;
 mod walking;
 mod words;
 
-pub use binding::{bind, bind_by};
+pub use binding::{bind, bind_behind_by, bind_by};
 pub use laws::{standard_texts_bind_alike, standards_bind_alike};
 pub use roles::GnuRole;
 pub use scope_bind::{BindRefusal, Bound, EntityKind, Linkage, List, Name, Range};

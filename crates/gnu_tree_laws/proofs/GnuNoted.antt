@@ -1,7 +1,8 @@
 -- How often a token may be noted as a name by the walk over GNU C, by its place in the tree: once at most.
 use Rattle.std.proofs.Common.{ℕ, ◌+◌, ◌<◌, ◌≤◌, ◌≡◌, Bool, true, false, ◌&&◌, ◌||◌, if◌then◌else◌, ◌==◌, Option, None, Some, ◌⊎◌, inl, inr, refl, sym, ap, subst, ◌∙◌, arith}
 use Rattle.std.specs.Prelude.{IfSome, nat_lt}
-use Rattle.std.proofs.lemmas.Bool.{false≢true, cases_Bool, cases_eq, eq-eqb, ltb-true, ltb-false, and_parts}
+use Rattle.std.proofs.lemmas.Bool.{false≢true, cases_Bool, cases_eq, ltb-true, ltb-false}
+use Rattle.cs_base.proofs.OptionLemmas.{some_if}
 use Rattle.c99_tree.specs.Tree.{Forest, none, token, node}
 use Rattle.c99_tree.specs.declared.production.Label.{Label}
 use Rattle.c99_tree.specs.declared.production.Production.{Production}
@@ -12,7 +13,7 @@ use Rattle.gnu_bind.specs.declared.roles.GnuRole.{GnuRole}
 use Rattle.gnu_bind.specs.Roles.{role_in}
 use Rattle.gnu_bind.specs.Walk.{auto_name}
 use Rattle.tree_laws.specs.TreesOfTexts.{token_count, AreFrom, begins_with_token, has_token, has_two_tokens, has_form, have_forms}
-use Rattle.tree_laws.proofs.Noted.{hit, hits, hit_no, declares, is_parameter, Within, name_within, told_within, form_here, forms_under, forms_behind}
+use Rattle.tree_laws.proofs.Noted.{hit, hits, declares, is_parameter, Within, name_within, told_within, form_here, forms_under, forms_behind, declares_none, outside_no, parameter_none, role_case, role_most, told_once}
 use Rattle.gnu_tree_laws.specs.GnuPlaces.{is_plain_gnu}
 use Rattle.gnu_tree_laws.proofs.GnuHeld.{gnu_told_name}
 
@@ -26,13 +27,6 @@ gnu_noted t l k none = 0
 gnu_noted t l k (token i rest) = gnu_hit (role_in l.production l.alternative k) t i + gnu_noted t l (k + 1) rest
 gnu_noted t l k (node m first under rest) =
     hits t (gnu_told_name m.production l.production first m under) + (gnu_noted t m 0 under + gnu_noted t l (k + 1) rest)
-
-bit_at_most : (c : Bool) → (if c then 1 else 0) ≤ 1
-bit_at_most true = omega arith
-bit_at_most false = omega arith
-
-hit_at_most : (t x : ℕ) → hit t x ≤ 1
-hit_at_most t x = bit_at_most (x == t)
 
 -- the first token among some children stands below them
 first_within : (f : Forest) (j d : ℕ) → AreFrom j f → has_token f ≡ true → Within j (token_count f) (first_token f d)
@@ -64,23 +58,11 @@ gnu_told_within _ q m under j w form = tt
 abbrev Outside : ℕ → ℕ → ℕ → Type 0
 Outside t j n = j ≤ t → t < j + n → ⊥
 
-role_case : (c : Bool) (t i : ℕ) → (i ≡ t → ⊥) → (if c then 0 else hit t i) ≡ 0
-role_case true t i h = refl
-role_case false t i h = hit_no t i h
-
 role_no : (r : GnuRole) (t i : ℕ) → (i ≡ t → ⊥) → gnu_hit r t i ≡ 0
 role_no r t i h = role_case (is_plain_gnu r) t i h
 
-role_most : (c : Bool) (t i : ℕ) → (if c then 0 else hit t i) ≤ 1
-role_most true t i = omega arith
-role_most false t i = hit_at_most t i
-
 role_at_most : (r : GnuRole) (t i : ℕ) → gnu_hit r t i ≤ 1
 role_at_most r t i = role_most (is_plain_gnu r) t i
-
-outside_no : (t j n : ℕ) (o : Option ℕ) → Outside t j n → IfSome o (Within j n) → hits t o ≡ 0
-outside_no t j n None out h = refl
-outside_no t j n (Some x) out h = hit_no t x (λ e. out (omega (arith, h.0, e)) (omega (arith, h.1, e)))
 
 told_outside : (t : ℕ) (p q : Production) (first : ℕ) (m : Label) (under : Forest) (j : ℕ) → first ≡ j → AreFrom j under → has_form p under ≡ true
     → Outside t j (token_count under) → hits t (gnu_told_name p q first m under) ≡ 0
@@ -110,20 +92,6 @@ named_role : (p : Production) (a k : ℕ) → ((ghosts.eq p Direct && (a == 1)) 
 named_role Direct a k h = refl
 named_role Pdirect a k h = refl
 named_role _ a k h = absurd (false≢true h)
-
-declares_none : (q : Production) (o : Option ℕ) → holds_name q ≡ true → (if declares q then o else None) ≡ None
-declares_none Declarator o h = refl
-declares_none Direct o h = refl
-declares_none Pdecl o h = refl
-declares_none Pdirect o h = refl
-declares_none _ o h = absurd (false≢true h)
-
-parameter_none : (q : Production) (o : Option ℕ) → holds_name q ≡ true → (if is_parameter q then o else None) ≡ None
-parameter_none Declarator o h = refl
-parameter_none Direct o h = refl
-parameter_none Pdecl o h = refl
-parameter_none Pdirect o h = refl
-parameter_none _ o h = absurd (false≢true h)
 
 -- a part of a declarator declares nothing
 part_tells_none : (p q : Production) (first : ℕ) (m : Label) (under : Forest) → holds_name p ≡ true → holds_name q ≡ true
@@ -186,10 +154,6 @@ hidden t j k l (node m first under rest) w forms holds name = elim (hidden_node 
 
 -- ---- Once at most
 
-some_if : (c : Bool) (o : Option ℕ) (t : ℕ) → (if c then o else None) ≡ Some t → o ≡ Some t
-some_if true o t e = e
-some_if false o t e = absurd cc
-
 enumerator_apart : (t j : ℕ) (m : Label) (under : Forest) → m.production ≡ Enumerator → j ≡ t → AreFrom j under → have_forms under ≡ true
     → begins_with_token under ≡ true → gnu_noted t m 0 under ≡ 0
 enumerator_apart t j m none p e w forms begins = absurd (false≢true begins)
@@ -238,13 +202,6 @@ told_apart Enumerator q t first j m under p e w forms form told =
 told_apart AutoDecl q t first j m under p e w forms form told =
     let same : auto_name under ≡ t = cc in auto_apart t j m under p w forms form same
 told_apart _ q t first j m under p e w forms form told = absurd cc
-
-told_once : (t n : ℕ) (o : Option ℕ) → n ≤ 1 → (o ≡ Some t → n ≡ 0) → hits t o + n ≤ 1
-told_once t n None most apart = omega (arith, most)
-told_once t n (Some x) most apart = elim (cases_eq x t) [
-  | inl same ↦ omega (arith, hit_at_most t x, apart (ap (λ y. Some y) same))
-  | inr other ↦ omega (arith, hit_no t x other, most)
-]
 
 before_or_behind : (t n : ℕ) → (t < n) ⊎ (n ≤ t)
 before_or_behind t n = elim (cases_Bool (nat_lt t n)) [ inl yes' ↦ inl (ltb-true t n yes') | inr no' ↦ inr (ltb-false t n no') ]

@@ -1,7 +1,6 @@
 -- Names of GNU C are spelled as their entities, and names and faults stand in the text.
-use Rattle.std.proofs.Common.{ℕ, ◌+◌, ◌<◌, ◌≤◌, ◌≡◌, Bool, true, false, ◌&&◌, ◌||◌, not, if◌then◌else◌, ◌==◌, List, [], ◌∷◌, length, map, Option, None, Some, Ok, ◌⊎◌, inl, inr, refl, sym, ap, subst, ◌∙◌, arith}
+use Rattle.std.proofs.Common.{ℕ, ◌+◌, ◌<◌, ◌≤◌, ◌≡◌, Bool, true, false, ◌&&◌, ◌||◌, not, if◌then◌else◌, ◌==◌, List, length, map, Option, None, Some, inl, inr, refl, sym, ap, subst, ◌∙◌, arith}
 use Rattle.std.specs.Prelude.{IfSome, IfErr, All}
-use Rattle.std.proofs.lemmas.Slice.Eq.{bytes_eq-Decides}
 use Rattle.std.proofs.lemmas.Bool.{false≢true, and_parts}
 use Rattle.cs_base.specs.Token.{Token}
 use Rattle.c99_tree.specs.Tree.{Forest, none, token, node, Node}
@@ -9,7 +8,7 @@ use Rattle.c99_tree.specs.declared.production.Label.{Label}
 use Rattle.c99_tree.specs.declared.production.Production.{Production}
 use Rattle.c99_tree.specs.declared.production.Production.TheVariants.{Enumerator, Declarator, Pdecl, AutoDecl}
 use Rattle.gnu_bind.specs.Below.c_types.Trees.{is_node, has_name, holds_name, name_below}
-use Rattle.gnu_bind.specs.Below.c_types.Declarations.{Facts, spelling_at, alike}
+use Rattle.gnu_bind.specs.Below.c_types.Declarations.{Facts, alike}
 use Rattle.gnu_bind.specs.Below.scope_bind.Below.name_chains.Frames.{at_first, outermost}
 use Rattle.gnu_bind.specs.Below.scope_bind.Named.{Fault, Occurrence}
 use Rattle.gnu_bind.specs.Below.scope_bind.Causes.{index_of}
@@ -19,6 +18,7 @@ use Rattle.gnu_bind.specs.Roles.{role_in}
 use Rattle.gnu_bind.specs.Walk.{auto_name}
 use Rattle.gnu_bind.specs.Bound.{facts_of, gnu_binding_of}
 use Rattle.gnu_bind.specs.Senses.{usual_sense}
+use Rattle.gnu_bind.proofs.Below.c_types.TokenLemmas.{alike_itself, alike_on}
 use Rattle.tree_laws.specs.TreesOfTexts.{token_count, AreFrom, begins_with_token, has_form, have_forms, IsTreeOf}
 use Rattle.tree_laws.proofs.InLists.{In, all_mapped, all_reversed}
 use Rattle.tree_laws.proofs.HeldNames.{bound_is, Has}
@@ -74,14 +74,6 @@ all_any toks l k none = tt
 all_any toks l k (token i rest) = (λ e. tt, all_any toks l (k + 1) rest)
 all_any toks l k (node m first under rest) =
     (some_any (gnu_told_name m.production l.production first m under), all_any toks m 0 under, all_any toks l (k + 1) rest)
-
-alike_itself : (toks : List Token) (i : ℕ) → alike toks i i ≡ true
-alike_itself toks i = (bytes_eq-Decides (spelling_at toks i) (spelling_at toks i)).1 refl
-
-alike_on : (toks : List Token) (i j k : ℕ) → alike toks i j ≡ true → alike toks j k ≡ true → alike toks i k ≡ true
-alike_on toks i j k e f =
-    (bytes_eq-Decides (spelling_at toks i) (spelling_at toks k)).1
-    ((bytes_eq-Decides (spelling_at toks i) (spelling_at toks j)).0 e ∙ (bytes_eq-Decides (spelling_at toks j) (spelling_at toks k)).0 f)
 
 abbrev Alike : List Token → List Occurrence → ℕ → ℕ → Type 0
 Alike toks os i j = alike toks i j ≡ true

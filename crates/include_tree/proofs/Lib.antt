@@ -9,6 +9,7 @@ pub mod GivenLemmas
 pub mod SettingsLemmas
 pub mod UnitLemmas
 pub mod WalkingLemmas
+pub mod AskingLemmas
 pub mod StayingLemmas
 pub mod WalkedLemmas
 pub mod WalksLemmas
@@ -17,3 +18,4 @@ pub mod StayingWalk
 pub mod PseudoLemmas
 -- Words of the crates below, passed on.
 pub mod Below
+pub mod EditedLemmas

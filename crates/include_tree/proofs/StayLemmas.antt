@@ -1,6 +1,6 @@
 -- What stays true of the table of files: whatever no step that asks for a path or opens a file undoes. Here the
 -- steps of expansions, definitions, conditions and searches.
-use Rattle.std.proofs.Common.{◌≡◌, ℕ, ◌+◌, nat_lt, nat_le, Bool, true, false, not, ◌&&◌, cond, is_some, List, [], ◌∷◌, ◌++◌, length, Option, None, Some, Result, Ok, Err, refl, inl, inr, arith}
+use Rattle.std.proofs.Common.{◌≡◌, ℕ, ◌+◌, nat_lt, nat_le, Bool, true, false, cond, is_some, List, [], ◌∷◌, ◌++◌, length, Option, None, Some, Result, Ok, Err, refl, inl, inr}
 use Rattle.std.proofs.lemmas.Bool.{cases_Bool, and_parts}
 use Rattle.std.specs.List.{list_any, list_all, filter}
 use Rattle.std.specs.Str.{is_utf8}
@@ -9,6 +9,7 @@ use Rattle.cs_base.specs.declared.causes.Cause.TheVariants.{DefinedFromMacro, To
 use Rattle.cs_base.specs.declared.positions.Place.{Place}
 use Rattle.cs_base.specs.declared.positions.Pos.{Pos}
 use Rattle.cs_base.specs.Token.{Token}
+use Rattle.cs_base.proofs.BoolLemmas.{and_not-false as not_pseudo}
 use Rattle.source_files.specs.Below.lexer.FileText.{TextValue, LexFault, FileTooLarge, OpenComment}
 use Rattle.source_files.specs.Below.line_shape.Signs.{is_name}
 use Rattle.unit_steps.specs.Below.cond_eval.declared.faults.CondFault.{CondFault}
@@ -20,13 +21,13 @@ use Rattle.unit_steps.specs.Below.macro_body.Defining.{defined_by, in_gnu}
 use Rattle.source_files.specs.Limits.{Limits}
 use Rattle.source_files.specs.Files.{Source, Found, Lines, Absent, Unopened, Opened, Made, Table, SourceFile, found_at, opened, asked, number_of, files_opened}
 use Rattle.source_files.specs.Faults.{Fault, fault, fault_at}
-use Rattle.unit_steps.specs.State.{Context, State, only, onward, did}
+use Rattle.unit_steps.specs.State.{Context, State, only, did}
 use Rattle.source_files.specs.Opening.{Reader, Opening, file_read, readable, first_opened, are_too_many, opened_as, opening}
 use Rattle.source_files.specs.Search.{Searched, can_be_asked, search, search_on}
 use Rattle.include_tree.specs.OpeningStep.{with_opened, open_file}
 use Rattle.unit_steps.specs.Names.{with_name, spelled_in}
 use Rattle.unit_steps.specs.Expanding.{expanded_as, expanded_in, most_toks, put_out, run_of}
-use Rattle.unit_steps.specs.Conditions.{Piece, Plain, Asks, pieces_from, answered, left_over, valued, judged, asked_pieces, holds, is_defined}
+use Rattle.unit_steps.specs.Conditions.{Piece, Plain, Asks, pieces_from, answered, left_over, valued, judged, asked_pieces, asked_toks, holds, is_defined}
 use Rattle.unit_steps.specs.Directives.{defined_as, define_of, undefined_as, undef_of, operand_in, asks_name, define_notes, after_define, may_define}
 use Rattle.include_tree.specs.Laws.{IfDone}
 use Rattle.include_tree.specs.PseudoFiles.{is_pseudo}
@@ -125,35 +126,30 @@ valued_stays : (J : Table → Type 0) (file : SourceFile) (at : Pos) (toks : Lis
 valued_stays J file at toks s (Ok b) h = left_over_stays J toks s h
 valued_stays J file at toks s (Err found) h = tt
 
-judged_stays : (J : Table → Type 0) (file : SourceFile) (at : Pos) (toks : List Token) (s : State) → J s.table
+pub judged_stays : (J : Table → Type 0) (file : SourceFile) (at : Pos) (toks : List Token) (s : State) → J s.table
     → IfDone (Stays {A = Bool} J) (judged file at toks s)
 judged_stays J file at toks s h =
     test_done (Stays {A = Bool} J) (list_any is_defined toks) (fault_at file at DefinedFromMacro) (valued file at toks s (condition toks))
     (valued_stays J file at toks s (condition toks) h)
 
-expanded_judged : (J : Table → Type 0) (file : SourceFile) (at : Pos) (toks : List Token) (s : State) → J s.table
-    → IfDone (Stays {A = Bool} J) (onward (expanded_in false file toks s) (judged file at))
-expanded_judged J file at toks s h =
-    onward_done (Stays {A = List Token} J) (Stays {A = Bool} J) (expanded_in false file toks s) (judged file at)
-    (expanded_stays J false file toks s h) (λ out t k. judged_stays J file at out t k)
-
 asked_pieces_stays : (J : Table → Type 0) (file : SourceFile) (at : Pos) (s : State) (o : Option (List Piece)) → J s.table
-    → IfDone (Stays {A = Bool} J) (asked_pieces file at s o)
+    → IfDone (Stays {A = List Token} J) (asked_pieces file at s o)
 asked_pieces_stays J file at s None h = tt
 asked_pieces_stays J file at s (Some pieces) h =
-    onward_done (Stays {A = List Token} J) (Stays {A = Bool} J) (Ok (answered pieces s))
-    (λ toks t. onward (expanded_in false file toks t) (judged file at)) (answered_stays J pieces s h)
-    (λ toks t k. expanded_judged J file at toks t k)
+    onward_done (Stays {A = List Token} J) (Stays {A = List Token} J) (Ok (answered pieces s)) (expanded_in false file) (answered_stays J pieces s h)
+    (λ toks t k. expanded_stays J false file toks t k)
+
+pub asked_stays : (J : Table → Type 0) (file : SourceFile) (at : Pos) (toks : List Token) (s : State) → J s.table
+    → IfDone (Stays {A = List Token} J) (asked_toks file at toks s)
+asked_stays J file at toks s h = asked_pieces_stays J file at s (pieces_from 0 toks) h
 
 pub holds_stays : (J : Table → Type 0) (file : SourceFile) (at : Pos) (toks : List Token) (s : State) → J s.table
     → IfDone (Stays {A = Bool} J) (holds file at toks s)
-holds_stays J file at toks s h = asked_pieces_stays J file at s (pieces_from 0 toks) h
+holds_stays J file at toks s h =
+    onward_done (Stays {A = List Token} J) (Stays {A = Bool} J) (asked_toks file at toks s) (judged file at) (asked_stays J file at toks s h)
+    (λ out t k. judged_stays J file at out t k)
 
 -- ---- searches
-
--- a path that can be asked for names no pseudo file
-pub not_pseudo : (a b : Bool) → (a && not b) ≡ true → b ≡ false
-not_pseudo a b h = grind (arith, h)
 
 pub asked_is : (path : List ℕ) → can_be_asked path ≡ true → is_pseudo path ≡ false
 asked_is path h = not_pseudo (is_utf8 path) (is_pseudo path) h

@@ -1,12 +1,13 @@
 -- Files that are kept stay, as a table of files grows.
-use Rattle.std.proofs.Common.{◌≡◌, ℕ, zero, suc, true, false, List, [], ◌∷◌, Option, Some, None, Result, Ok, Err, refl, sym, ◌∙◌, ap, subst, inl, inr}
+use Rattle.std.proofs.Common.{◌≡◌, ℕ, true, false, List, Option, Some, None, Result, Ok, Err, refl, sym, ◌∙◌, ap}
 use Rattle.std.specs.Prelude.{IfSome, IsSome, slice_get}
 use Rattle.std.specs.Option.{option_map, option_and_then}
 use Rattle.source_files.specs.Below.lexer.FileText.{TextValue, LexFault, file_text}
-use Rattle.source_files.specs.Files.{Found, Entry, Table, SourceFile, source_file}
+use Rattle.source_files.specs.Files.{Entry, Table, SourceFile, source_file}
 use Rattle.source_files.specs.KeptFiles.{KeptValue, kept, kept_bytes, kept_in, kept_at}
 use Rattle.source_files.specs.Sources.{read_as, source_kept, source_at}
-use Rattle.source_files.specs.Tables.{Becomes, IsGrown}
+use Rattle.source_files.specs.Tables.{IsGrown}
+use Rattle.source_files.proofs.KeptLemmas.{kept-grown}
 
 -- ---- what holds of a value, if there is one
 
@@ -30,24 +31,6 @@ some_is (Some a) h = (a, refl)
 
 pub some_same : {A : Type 0} (a b : A) → ◌≡◌ {A = Option A} (Some a) (Some b) → a ≡ b
 some_same a b h = cc
-
-kept-becomes : (n : ℕ) (path : List ℕ) (old new : Found) (k : KeptValue) → Becomes old new → option_map (kept n path) (kept_bytes old) ≡ Some k
-    → option_map (kept n path) (kept_bytes new) ≡ Some k
-kept-becomes n path old new k (inl same) h = subst (λ (f : Found). option_map (kept n path) (kept_bytes f) ≡ Some k) (sym same) h
-kept-becomes n path old new k (inr opens) h =
-    absurd (let none : ◌≡◌ {A = Option KeptValue} None (Some k) = subst (λ (f : Found). option_map (kept n path) (kept_bytes f) ≡ Some k) opens.1 h in cc)
-
-kept-entry : (n : ℕ) (e f : Entry) (k : KeptValue) → f.path ≡ e.path → Becomes e.found f.found → kept_in n e ≡ Some k → kept_in n f ≡ Some k
-kept-entry n e f k path becomes h =
-    ap (λ (p : List ℕ). option_map (kept n p) (kept_bytes f.found)) path ∙ kept-becomes n e.path e.found f.found k becomes h
-
--- a file that is kept stays
-kept-grown : (old new : Table) (n m : ℕ) (k : KeptValue) → IsGrown old new → option_and_then (kept_in n) (slice_get old m) ≡ Some k
-    → option_and_then (kept_in n) (slice_get new m) ≡ Some k
-kept-grown [] new n m k g h = absurd (let none : ◌≡◌ {A = Option KeptValue} None (Some k) = h in cc)
-kept-grown (e ∷ old) [] n m k g h = absurd g
-kept-grown (e ∷ old) (f ∷ new) n zero k g h = kept-entry n e f k g.0 g.1 h
-kept-grown (e ∷ old) (f ∷ new) n (suc m) k g h = kept-grown old new n m k g.2 h
 
 source-kept_same : (o p : Option KeptValue) (file : SourceFile) → ((k : KeptValue) → o ≡ Some k → p ≡ Some k) → option_and_then source_kept o ≡ Some file
     → option_and_then source_kept p ≡ Some file

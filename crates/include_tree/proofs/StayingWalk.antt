@@ -12,7 +12,7 @@ use Rattle.source_files.specs.Below.line_shape.declared.items.GnuLine.TheVariant
 use Rattle.source_files.specs.Files.{Table, SourceFile, asked}
 use Rattle.source_files.specs.Faults.{place_in, first_place}
 use Rattle.unit_steps.specs.Notes.{Reaches, Entered, ReadOnce}
-use Rattle.unit_steps.specs.State.{Context, State, did, Outcome, only}
+use Rattle.unit_steps.specs.State.{Context, State, did, Outcome, only, onward}
 use Rattle.include_tree.specs.Sections.{Group, Processed, Awaited, Over, Skipped, Section, section, are_processed, group_of_else, Turn, Opens, GoesOn, GoesLast, Ends, Stays as Remains, turn_of}
 use Rattle.source_files.specs.Search.{Header, Searched, Place, places_for, behind_of, can_be_asked, candidates_of, search}
 use Rattle.include_tree.specs.OpeningStep.{open_file}
@@ -21,12 +21,15 @@ use Rattle.unit_steps.specs.Directives.{opens_with, operand_in, is_if, goes_with
 use Rattle.include_tree.specs.Including.{open_searched, open_header, Process, Inner, left_to, entered, unless_once, included, include_of, include_next_of}
 use Rattle.unit_steps.specs.IncludeNames.{header_or, computed_header, header_named, written_header, next_named}
 use Rattle.source_files.specs.HeaderNames.{header_of_toks, is_header, header_in, header_at, begins_header}
+use Rattle.unit_steps.specs.Conditions.{asked_toks, judged}
+use Rattle.unit_steps.specs.Questions.{Question, Unasked, Looks, Lacks, asks_next, questions_from, found_as}
+use Rattle.include_tree.specs.Asking.{there, is_there, look, looked, gnu_known, gnu_asked, gnu_holds, asks_files, opens_in, goes_in}
 use Rattle.include_tree.specs.Walk.{ItemText, items_in, processed, Stepped, stepped, go_on, opens, goes_on, reaching_alive, in_section, turned, is_foreign, foreign_line, item_step, file_end, walk, file_items}
 use Rattle.include_tree.specs.Unit.{outer_file, main_file, both_files}
 use Rattle.include_tree.specs.Laws.{IfDone}
 use Rattle.include_tree.specs.PseudoFiles.{is_pseudo}
 use Rattle.include_tree.proofs.OutcomeLemmas.{noted_done, onward_done, cond_done}
-use Rattle.include_tree.proofs.StayLemmas.{IsStable, Stays, expanded_stays, run_stays, define_stays, undef_stays, asks_stays, holds_stays, search_stays, list_all-filtered, open_file_stays}
+use Rattle.include_tree.proofs.StayLemmas.{IsStable, Stays, expanded_stays, run_stays, define_stays, undef_stays, asks_stays, asked_stays, judged_stays, holds_stays, search_stays, list_all-filtered, open_file_stays}
 
 -- ---- include lines
 
@@ -64,14 +67,18 @@ next_stays J file at toks s h =
     cond_done (Stays {A = Header} J) (begins_header toks) (written_header file at s (header_at toks)) (computed_header file at toks s)
     (written_stays J file at s (header_at toks) h) (computed_stays J file at toks s h)
 
+-- the table behind a search for a header
+paths_stay : (ctx : Context) (J : Table → Type 0) → IsStable ctx.source J → (file : SourceFile) (next : Bool) (header : Header) (s : State) → J s.table
+    → J (search ctx.source (candidates_of next header s.behind file.path ctx.unit) s.table).table
+paths_stay ctx J k file next header s h =
+    search_stays ctx.source J k (candidates_of next header s.behind file.path ctx.unit) s.table
+    (list_all-filtered can_be_asked (map (λ (p : Place). joined_path_of p.directory header.name) (places_for next header s.behind file.path ctx.unit))) h
+
 open_header_stays : (ctx : Context) (J : Table → Type 0) → IsStable ctx.source J → (file : SourceFile) (at : Pos) (next : Bool) (header : Header) (s : State) → J s.table
     → IfDone (Stays {A = SourceFile} J) (open_header ctx file at next header s)
 open_header_stays ctx J k file at next header s h =
-    let paths = candidates_of next header s.behind file.path ctx.unit in
-    let found : Searched = search ctx.source paths s.table in
-    open_searched_stays ctx J k file at s found found.path
-    (search_stays ctx.source J k paths s.table
-    (list_all-filtered can_be_asked (map (λ (p : Place). joined_path_of p.directory header.name) (places_for next header s.behind file.path ctx.unit))) h)
+    let found : Searched = search ctx.source (candidates_of next header s.behind file.path ctx.unit) s.table in
+    open_searched_stays ctx J k file at s found found.path (paths_stay ctx J k file next header s h)
 
 -- what is known of the items of included files
 abbrev pub ProcessStays : (Table → Type 0) → Process → Type 0
@@ -144,6 +151,60 @@ processed_stays ctx J b inner p file kind.Line at toks s h = h
 processed_stays ctx J b inner p file kind.Pragma at toks s h = pragma_stays J (is_gnu ctx.unit.standard) file at toks s h
 processed_stays ctx J b inner p file kind.Empty at toks s h = h
 
+-- ---- conditions of GNU C
+
+there_stays : (ctx : Context) (J : Table → Type 0) → IsStable ctx.source J → (file : SourceFile) (at : Pos) (s : State) (found : Searched) (o : Option (List ℕ))
+    → J found.table → IfDone (Stays {A = Bool} J) (there ctx file at s found o)
+there_stays ctx J k file at s found None h = h
+there_stays ctx J k file at s found (Some path) h =
+    let t : State = record s { table = found.table } in
+    onward_done (Stays {A = SourceFile} J) (Stays {A = Bool} J) (open_file ctx (place_in file at) path t) (λ f u. only true u)
+    (open_file_stays ctx J k (place_in file at) path t h) (λ f u g. g)
+
+is_there_stays : (ctx : Context) (J : Table → Type 0) → IsStable ctx.source J → (file : SourceFile) (at : Pos) (next : Bool) (header : Header) (s : State) → J s.table
+    → IfDone (Stays {A = Bool} J) (is_there ctx file at next header s)
+is_there_stays ctx J k file at next header s h =
+    let found : Searched = search ctx.source (candidates_of next header s.behind file.path ctx.unit) s.table in
+    there_stays ctx J k file at s found found.path (paths_stay ctx J k file next header s h)
+
+look_stays : (ctx : Context) (J : Table → Type 0) → IsStable ctx.source J → (file : SourceFile) (at : Pos) (q : Question) (s : State) → J s.table
+    → IfDone (Stays {A = Token} J) (look ctx file at q s)
+look_stays ctx J k file at (Unasked t) s h = h
+look_stays ctx J k file at (Looks word operand) s h =
+    onward_done (Stays {A = Header} J) (Stays {A = Token} J) (header_or file at operand s (header_of_toks operand)) (λ header t. onward (is_there ctx file at (asks_next word) header t) (found_as word))
+    (header_or_stays J file at operand s (header_of_toks operand) h)
+    (λ header t g. onward_done (Stays {A = Bool} J) (Stays {A = Token} J) (is_there ctx file at (asks_next word) header t) (found_as word)
+    (is_there_stays ctx J k file at (asks_next word) header t g) (λ b u i. i))
+look_stays ctx J k file at Lacks s h = tt
+
+looked_stays : (ctx : Context) (J : Table → Type 0) → IsStable ctx.source J → (file : SourceFile) (at : Pos) (qs : List Question) (s : State) → J s.table
+    → IfDone (Stays {A = List Token} J) (looked ctx file at qs s)
+unfolding looked
+looked_stays ctx J k file at [] s h = h
+looked_stays ctx J k file at (q ∷ qs) s h =
+    onward_done (Stays {A = Token} J) (Stays {A = List Token} J) (look ctx file at q s) (λ t u. onward (looked ctx file at qs u) (λ toks v. only (t ∷ toks) v)) (look_stays ctx J k file at q s h)
+    (λ t u g. onward_done (Stays {A = List Token} J) (Stays {A = List Token} J) (looked ctx file at qs u) (λ toks v. only (t ∷ toks) v) (looked_stays ctx J k file at qs u g) (λ toks v i. i))
+
+gnu_known_stays : (ctx : Context) (J : Table → Type 0) → IsStable ctx.source J → (file : SourceFile) (at : Pos) (toks : List Token) (s : State) → J s.table
+    → IfDone (Stays {A = Bool} J) (gnu_known ctx file at toks s)
+gnu_known_stays ctx J k file at toks s h =
+    onward_done (Stays {A = List Token} J) (Stays {A = Bool} J) (looked ctx file at (questions_from false 0 toks) s) (judged file at)
+    (looked_stays ctx J k file at (questions_from false 0 toks) s h) (λ out t g. judged_stays J file at out t g)
+
+gnu_asked_stays : (ctx : Context) (J : Table → Type 0) → IsStable ctx.source J → (file : SourceFile) (at : Pos) (toks : List Token) (s : State) → J s.table
+    → IfDone (Stays {A = Bool} J) (gnu_asked ctx file at toks s)
+gnu_asked_stays ctx J k file at toks s h =
+    onward_done (Stays {A = List Token} J) (Stays {A = Bool} J) (asked_toks file at toks s) (gnu_known ctx file at) (asked_stays J file at toks s h)
+    (λ out t g. gnu_known_stays ctx J k file at out t g)
+
+gnu_holds_stays : (ctx : Context) (J : Table → Type 0) → IsStable ctx.source J → (file : SourceFile) (at : Pos) (toks : List Token) (s : State) → J s.table
+    → IfDone (Stays {A = Bool} J) (gnu_holds ctx file at toks s)
+gnu_holds_stays ctx J k file at toks s h =
+    onward_done (Stays {A = List Token} J) (Stays {A = Bool} J) (looked ctx file at (questions_from true 0 toks) s) (gnu_asked ctx file at)
+    (looked_stays ctx J k file at (questions_from true 0 toks) s h) (λ out t g. gnu_asked_stays ctx J k file at out t g)
+
+-- ---- sections
+
 opens_with_stays : (J : Table → Type 0) (k : ItemKind) (file : SourceFile) (at : Pos) (toks : List Token) (s : State) → J s.table
     → IfDone (Stays {A = Bool} J) (opens_with k file at toks s)
 opens_with_stays J kind.If file at toks s h = holds_stays J file at (drop 2 toks) s h
@@ -163,12 +224,18 @@ opens_with_stays J kind.Error file at toks s h = tt
 opens_with_stays J kind.Pragma file at toks s h = tt
 opens_with_stays J kind.Empty file at toks s h = tt
 
-opens_stays : (J : Table → Type 0) (file : SourceFile) (k : ℕ) (i : ItemText) (sections : List Section) (s : State) → J s.table
-    → IfDone (Stays {A = Stepped} J) (opens file k i sections s)
-opens_stays J file k i sections s h =
+opens_in_stays : (ctx : Context) (J : Table → Type 0) → IsStable ctx.source J → (k : ItemKind) (file : SourceFile) (at : Pos) (toks : List Token) (s : State) → J s.table
+    → IfDone (Stays {A = Bool} J) (opens_in ctx k file at toks s)
+opens_in_stays ctx J b k file at toks s h =
+    cond_done (Stays {A = Bool} J) (asks_files ctx.unit.standard k) (gnu_holds ctx file at (drop 2 toks) s) (opens_with k file at toks s)
+    (gnu_holds_stays ctx J b file at (drop 2 toks) s h) (opens_with_stays J k file at toks s h)
+
+opens_stays : (ctx : Context) (J : Table → Type 0) → IsStable ctx.source J → (file : SourceFile) (k : ℕ) (i : ItemText) (sections : List Section) (s : State) → J s.table
+    → IfDone (Stays {A = Stepped} J) (opens ctx file k i sections s)
+opens_stays ctx J b file k i sections s h =
     cond_done (Stays {A = Stepped} J) (are_processed sections) _ (only (stepped [] (section i.at Skipped false ∷ sections)) s)
     (noted_done (Stays {A = Stepped} J) (Reaches file.number k (is_if i.kind) s.before ∷ []) _
-    (onward_done (Stays {A = Bool} J) (Stays {A = Stepped} J) (opens_with i.kind file i.at i.toks s) _ (opens_with_stays J i.kind file i.at i.toks s h) (λ b t g. g)))
+    (onward_done (Stays {A = Bool} J) (Stays {A = Stepped} J) (opens_in ctx i.kind file i.at i.toks s) _ (opens_in_stays ctx J b i.kind file i.at i.toks s h) (λ v t g. g)))
     h
 
 goes_with_stays : (J : Table → Type 0) (k : ItemKind) (file : SourceFile) (at : Pos) (toks : List Token) (s : State) → J s.table
@@ -193,14 +260,20 @@ goes_with_stays J kind.Error file at toks s h = holds_stays J file at (drop 2 to
 goes_with_stays J kind.Pragma file at toks s h = holds_stays J file at (drop 2 toks) s h
 goes_with_stays J kind.Empty file at toks s h = holds_stays J file at (drop 2 toks) s h
 
-goes_on_stays : (J : Table → Type 0) (file : SourceFile) (k : ℕ) (i : ItemText) (open_ : Section) (sections : List Section) (s : State) (g : Group) → J s.table
-    → IfDone (Stays {A = Stepped} J) (goes_on file k i open_ sections s g)
-goes_on_stays J file k i open_ sections s Awaited h =
+goes_in_stays : (ctx : Context) (J : Table → Type 0) → IsStable ctx.source J → (k : ItemKind) (file : SourceFile) (at : Pos) (toks : List Token) (s : State) → J s.table
+    → IfDone (Stays {A = Bool} J) (goes_in ctx k file at toks s)
+goes_in_stays ctx J b k file at toks s h =
+    cond_done (Stays {A = Bool} J) (asks_files ctx.unit.standard k) (gnu_holds ctx file at (drop 2 toks) s) (goes_with k file at toks s)
+    (gnu_holds_stays ctx J b file at (drop 2 toks) s h) (goes_with_stays J k file at toks s h)
+
+goes_on_stays : (ctx : Context) (J : Table → Type 0) → IsStable ctx.source J → (file : SourceFile) (k : ℕ) (i : ItemText) (open_ : Section) (sections : List Section) (s : State) (g : Group) → J s.table
+    → IfDone (Stays {A = Stepped} J) (goes_on ctx file k i open_ sections s g)
+goes_on_stays ctx J b file k i open_ sections s Awaited h =
     noted_done (Stays {A = Stepped} J) (Reaches file.number k true s.before ∷ []) _
-    (onward_done (Stays {A = Bool} J) (Stays {A = Stepped} J) (goes_with i.kind file i.at i.toks s) _ (goes_with_stays J i.kind file i.at i.toks s h) (λ b t g. g))
-goes_on_stays J file k i open_ sections s Skipped h = h
-goes_on_stays J file k i open_ sections s Processed h = h
-goes_on_stays J file k i open_ sections s Over h = h
+    (onward_done (Stays {A = Bool} J) (Stays {A = Stepped} J) (goes_in ctx i.kind file i.at i.toks s) _ (goes_in_stays ctx J b i.kind file i.at i.toks s h) (λ v t g. g))
+goes_on_stays ctx J b file k i open_ sections s Skipped h = h
+goes_on_stays ctx J b file k i open_ sections s Processed h = h
+goes_on_stays ctx J b file k i open_ sections s Over h = h
 
 alive_stays : (J : Table → Type 0) (file : SourceFile) (k : ℕ) (g : Group) (s : State) (d : Stepped) → J s.table
     → IfDone (Stays {A = Stepped} J) (reaching_alive file k g s (only d s))
@@ -221,9 +294,9 @@ in_section_stays J file i Remains (o ∷ around) next h = cond_done (Stays {A = 
 
 turned_stays : (ctx : Context) (J : Table → Type 0) → IsStable ctx.source J → (inner : Inner) → InnerStays J inner → (file : SourceFile) (k : ℕ) (i : ItemText) (sections : List Section) (s : State) (turn : Turn)
     → J s.table → IfDone (Stays {A = Stepped} J) (turned ctx inner file k i sections s turn)
-turned_stays ctx J b inner p file k i sections s Opens h = opens_stays J file k i sections s h
+turned_stays ctx J b inner p file k i sections s Opens h = opens_stays ctx J b file k i sections s h
 turned_stays ctx J b inner p file k i sections s GoesOn h =
-    in_section_stays J file i GoesOn sections _ (λ o around. goes_on_stays J file k i o around s o.group h)
+    in_section_stays J file i GoesOn sections _ (λ o around. goes_on_stays ctx J b file k i o around s o.group h)
 turned_stays ctx J b inner p file k i sections s GoesLast h =
     in_section_stays J file i GoesLast sections _ (λ o around. alive_stays J file k o.group s (go_on o (group_of_else o.group) true around) h)
 turned_stays ctx J b inner p file k i sections s Ends h =

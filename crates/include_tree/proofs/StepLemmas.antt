@@ -19,10 +19,10 @@ use Rattle.unit_steps.specs.Below.macro_body.Live.{with_macro, without_macro}
 use Rattle.unit_steps.proofs.Below.macro_expand.WholeLemmas.{whole_falls}
 use Rattle.source_files.specs.Files.{SourceFile}
 use Rattle.source_files.specs.Faults.{fault_at}
-use Rattle.unit_steps.specs.State.{Context, State, Outcome, onward, did}
+use Rattle.unit_steps.specs.State.{Context, State, Outcome, did}
 use Rattle.unit_steps.specs.Names.{with_name}
 use Rattle.unit_steps.specs.Expanding.{expanded_as, expanded_in, most_toks, put_out, run_of}
-use Rattle.unit_steps.specs.Conditions.{Piece, Plain, Asks, pieces_from, answered, left_over, valued, judged, asked_pieces, holds, is_defined}
+use Rattle.unit_steps.specs.Conditions.{Piece, Plain, Asks, pieces_from, answered, left_over, valued, judged, asked_pieces, asked_toks, holds, is_defined}
 use Rattle.unit_steps.specs.Directives.{defined_as, define_of, undefined_as, undef_of, operand_in, asks_name, define_notes, after_define, may_define}
 use Rattle.include_tree.specs.Laws.{IfDone, Leads}
 use Rattle.include_tree.proofs.OutcomeLemmas.{onward_done, test_done}
@@ -141,24 +141,22 @@ valued_leads : (ctx : Context) (file : SourceFile) (at : Pos) (toks : List Token
 valued_leads ctx file at toks s (Ok b) = left_over_leads ctx toks s
 valued_leads ctx file at toks s (Err found) = tt
 
-judged_leads : (ctx : Context) (file : SourceFile) (at : Pos) (toks : List Token) (s : State) → IfDone (Behind {A = Bool} ctx s) (judged file at toks s)
+pub judged_leads : (ctx : Context) (file : SourceFile) (at : Pos) (toks : List Token) (s : State) → IfDone (Behind {A = Bool} ctx s) (judged file at toks s)
 judged_leads ctx file at toks s =
     test_done (Behind {A = Bool} ctx s) (list_any is_defined toks) (fault_at file at DefinedFromMacro) (valued file at toks s (condition toks))
     (valued_leads ctx file at toks s (condition toks))
 
-expanded_judged : (ctx : Context) (file : SourceFile) (at : Pos) (toks : List Token) (s : State)
-    → IfDone (Behind {A = Bool} ctx s) (onward (expanded_in false file toks s) (judged file at))
-expanded_judged ctx file at toks s =
-    onward_done (Behind {A = List Token} ctx s) (Behind {A = Bool} ctx s) (expanded_in false file toks s) (judged file at)
-    (expanded_leads ctx false file toks s) (λ out t h. behind_then ctx s t h (judged file at out t) (judged_leads ctx file at out t))
-
 asked_pieces_leads : (ctx : Context) (file : SourceFile) (at : Pos) (s : State) (o : Option (List Piece))
-    → IfDone (Behind {A = Bool} ctx s) (asked_pieces file at s o)
+    → IfDone (Behind {A = List Token} ctx s) (asked_pieces file at s o)
 asked_pieces_leads ctx file at s None = tt
 asked_pieces_leads ctx file at s (Some pieces) =
-    onward_done (Behind {A = List Token} ctx s) (Behind {A = Bool} ctx s) (Ok (answered pieces s))
-    (λ toks t. onward (expanded_in false file toks t) (judged file at)) (answered_leads ctx pieces s)
-    (λ toks t h. behind_then ctx s t h (onward (expanded_in false file toks t) (judged file at)) (expanded_judged ctx file at toks t))
+    onward_done (Behind {A = List Token} ctx s) (Behind {A = List Token} ctx s) (Ok (answered pieces s)) (expanded_in false file) (answered_leads ctx pieces s)
+    (λ toks t h. behind_then ctx s t h (expanded_in false file toks t) (expanded_leads ctx false file toks t))
+
+pub asked_leads : (ctx : Context) (file : SourceFile) (at : Pos) (toks : List Token) (s : State) → IfDone (Behind {A = List Token} ctx s) (asked_toks file at toks s)
+asked_leads ctx file at toks s = asked_pieces_leads ctx file at s (pieces_from 0 toks)
 
 pub holds_leads : (ctx : Context) (file : SourceFile) (at : Pos) (toks : List Token) (s : State) → IfDone (Behind {A = Bool} ctx s) (holds file at toks s)
-holds_leads ctx file at toks s = asked_pieces_leads ctx file at s (pieces_from 0 toks)
+holds_leads ctx file at toks s =
+    onward_done (Behind {A = List Token} ctx s) (Behind {A = Bool} ctx s) (asked_toks file at toks s) (judged file at) (asked_leads ctx file at toks s)
+    (λ out t h. behind_then ctx s t h (judged file at out t) (judged_leads ctx file at out t))

@@ -12,7 +12,7 @@ use Rattle.source_files.specs.Limits.{Limits}
 use Rattle.source_files.specs.Files.{Source, Made, Table, SourceFile, Carried, asked, found_at, defines_path}
 use Rattle.source_files.specs.Faults.{place_in, first_place}
 use Rattle.unit_steps.specs.Notes.{Reaches, Entered, ReadOnce}
-use Rattle.unit_steps.specs.State.{Context, context, State, did, Outcome, only}
+use Rattle.unit_steps.specs.State.{Context, context, State, did, Outcome, only, onward}
 use Rattle.source_files.specs.Opening.{Reader}
 use Rattle.include_tree.specs.Sections.{Group, Processed, Awaited, Over, Skipped, Section, section, are_processed, group_of_else, Turn, Opens, GoesOn, GoesLast, Ends, Stays, turn_of}
 use Rattle.source_files.specs.Search.{Header, Searched, behind_of, candidates_of, search}
@@ -22,6 +22,9 @@ use Rattle.unit_steps.specs.Directives.{opens_with, operand_in, is_if, goes_with
 use Rattle.include_tree.specs.Including.{open_searched, open_header, Process, Inner, left_to, entered, unless_once, included, include_of, include_next_of}
 use Rattle.unit_steps.specs.IncludeNames.{header_or, computed_header, header_named, written_header, next_named}
 use Rattle.source_files.specs.HeaderNames.{header_of_toks, is_header, header_in, header_at, begins_header}
+use Rattle.unit_steps.specs.Conditions.{asked_toks, judged}
+use Rattle.unit_steps.specs.Questions.{Question, Unasked, Looks, Lacks, asks_next, questions_from, found_as}
+use Rattle.include_tree.specs.Asking.{there, is_there, look, looked, gnu_known, gnu_asked, gnu_holds, asks_files, opens_in, goes_in}
 use Rattle.include_tree.specs.Walk.{ItemText, items_in, processed, Stepped, stepped, go_on, opens, goes_on, reaching_alive, in_section, turned, is_foreign, foreign_line, item_step, file_end, walk, file_items}
 use Rattle.include_tree.specs.Unit.{first_state, outer_file, main_file, both_files, unit_outcome}
 use Rattle.include_tree.specs.Laws.{IfDone, Leads, UnitEnds}
@@ -30,7 +33,7 @@ use Rattle.include_tree.proofs.OutcomeLemmas.{noted_done, onward_done, cond_done
 use Rattle.source_files.proofs.TableLemmas.{widens_refl, widens_trans, widens_asked, widens_push}
 use Rattle.include_tree.proofs.LeadsLemmas.{leads_by, leads_refl, leads_trans, leads_as}
 use Rattle.include_tree.proofs.SearchLemmas.{search_wide, open_file_leads}
-use Rattle.include_tree.proofs.StepLemmas.{Behind, PutsOut, expanded_leads, run_leads, puts_then, behind_then, define_leads, undef_leads, asks_leads, holds_leads}
+use Rattle.include_tree.proofs.StepLemmas.{Behind, PutsOut, expanded_leads, run_leads, puts_then, behind_then, define_leads, undef_leads, asks_leads, asked_leads, judged_leads, holds_leads}
 
 -- ---- include lines
 
@@ -157,6 +160,56 @@ processed_leads ctx inner p file kind.Line at toks s = leads_refl ctx s
 processed_leads ctx inner p file kind.Pragma at toks s = pragma_leads ctx (is_gnu ctx.unit.standard) file at toks s
 processed_leads ctx inner p file kind.Empty at toks s = leads_refl ctx s
 
+-- ---- conditions of GNU C
+
+there_leads : (ctx : Context) (file : SourceFile) (at : Pos) (s : State) (found : Searched) (o : Option (List ℕ)) → Widens ctx.source s.table found.table
+    → IfDone (Behind {A = Bool} ctx s) (there ctx file at s found o)
+there_leads ctx file at s found None wide = leads_table ctx s found.table wide
+there_leads ctx file at s found (Some path) wide =
+    let t : State = record s { table = found.table } in
+    onward_done (Behind {A = SourceFile} ctx t) (Behind {A = Bool} ctx s) (open_file ctx (place_in file at) path t) (λ f u. only true u) (open_file_leads ctx (place_in file at) path t)
+    (λ f u h. behind_then ctx s t (leads_table ctx s found.table wide) (only true u) h)
+
+pub is_there_leads : (ctx : Context) (file : SourceFile) (at : Pos) (next : Bool) (h : Header) (s : State) → IfDone (Behind {A = Bool} ctx s) (is_there ctx file at next h s)
+is_there_leads ctx file at next h s =
+    let paths = candidates_of next h s.behind file.path ctx.unit in
+    let found : Searched = search ctx.source paths s.table in
+    there_leads ctx file at s found found.path (search_wide ctx.source paths s.table)
+
+pub look_leads : (ctx : Context) (file : SourceFile) (at : Pos) (q : Question) (s : State) → IfDone (Behind {A = Token} ctx s) (look ctx file at q s)
+look_leads ctx file at (Unasked t) s = leads_refl ctx s
+look_leads ctx file at (Looks word operand) s =
+    onward_done (Behind {A = Header} ctx s) (Behind {A = Token} ctx s) (header_or file at operand s (header_of_toks operand))
+    (λ h t. onward (is_there ctx file at (asks_next word) h t) (found_as word)) (header_or_leads ctx file at operand s (header_of_toks operand))
+    (λ h t k. behind_then ctx s t k (onward (is_there ctx file at (asks_next word) h t) (found_as word))
+    (onward_done (Behind {A = Bool} ctx t) (Behind {A = Token} ctx t) (is_there ctx file at (asks_next word) h t) (found_as word) (is_there_leads ctx file at (asks_next word) h t) (λ b u g. g)))
+look_leads ctx file at Lacks s = tt
+
+pub looked_leads : (ctx : Context) (file : SourceFile) (at : Pos) (qs : List Question) (s : State) → IfDone (Behind {A = List Token} ctx s) (looked ctx file at qs s)
+unfolding looked
+looked_leads ctx file at [] s = leads_refl ctx s
+looked_leads ctx file at (q ∷ qs) s =
+    onward_done (Behind {A = Token} ctx s) (Behind {A = List Token} ctx s) (look ctx file at q s) (λ t u. onward (looked ctx file at qs u) (λ toks v. only (t ∷ toks) v)) (look_leads ctx file at q s)
+    (λ t u h. behind_then ctx s u h (onward (looked ctx file at qs u) (λ toks v. only (t ∷ toks) v))
+    (onward_done (Behind {A = List Token} ctx u) (Behind {A = List Token} ctx u) (looked ctx file at qs u) (λ toks v. only (t ∷ toks) v) (looked_leads ctx file at qs u) (λ toks v g. g)))
+
+pub gnu_known_leads : (ctx : Context) (file : SourceFile) (at : Pos) (toks : List Token) (s : State) → IfDone (Behind {A = Bool} ctx s) (gnu_known ctx file at toks s)
+gnu_known_leads ctx file at toks s =
+    onward_done (Behind {A = List Token} ctx s) (Behind {A = Bool} ctx s) (looked ctx file at (questions_from false 0 toks) s) (judged file at) (looked_leads ctx file at (questions_from false 0 toks) s)
+    (λ out t h. behind_then ctx s t h (judged file at out t) (judged_leads ctx file at out t))
+
+pub gnu_asked_leads : (ctx : Context) (file : SourceFile) (at : Pos) (toks : List Token) (s : State) → IfDone (Behind {A = Bool} ctx s) (gnu_asked ctx file at toks s)
+gnu_asked_leads ctx file at toks s =
+    onward_done (Behind {A = List Token} ctx s) (Behind {A = Bool} ctx s) (asked_toks file at toks s) (gnu_known ctx file at) (asked_leads ctx file at toks s)
+    (λ out t h. behind_then ctx s t h (gnu_known ctx file at out t) (gnu_known_leads ctx file at out t))
+
+gnu_holds_leads : (ctx : Context) (file : SourceFile) (at : Pos) (toks : List Token) (s : State) → IfDone (Behind {A = Bool} ctx s) (gnu_holds ctx file at toks s)
+gnu_holds_leads ctx file at toks s =
+    onward_done (Behind {A = List Token} ctx s) (Behind {A = Bool} ctx s) (looked ctx file at (questions_from true 0 toks) s) (gnu_asked ctx file at) (looked_leads ctx file at (questions_from true 0 toks) s)
+    (λ out t h. behind_then ctx s t h (gnu_asked ctx file at out t) (gnu_asked_leads ctx file at out t))
+
+-- ---- sections
+
 opens_with_leads : (ctx : Context) (k : ItemKind) (file : SourceFile) (at : Pos) (toks : List Token) (s : State)
     → IfDone (Behind {A = Bool} ctx s) (opens_with k file at toks s)
 opens_with_leads ctx kind.If file at toks s = holds_leads ctx file at (drop 2 toks) s
@@ -180,11 +233,16 @@ opens_with_leads ctx kind.Empty file at toks s = tt
 abbrev pub Steps : Context → State → Stepped → State → Type 0
 Steps ctx s d t = Leads ctx s (length d.toks) t
 
-opens_leads : (ctx : Context) (file : SourceFile) (k : ℕ) (i : ItemText) (sections : List Section) (s : State) → IfDone (Steps ctx s) (opens file k i sections s)
+opens_in_leads : (ctx : Context) (k : ItemKind) (file : SourceFile) (at : Pos) (toks : List Token) (s : State) → IfDone (Behind {A = Bool} ctx s) (opens_in ctx k file at toks s)
+opens_in_leads ctx k file at toks s =
+    cond_done (Behind {A = Bool} ctx s) (asks_files ctx.unit.standard k) (gnu_holds ctx file at (drop 2 toks) s) (opens_with k file at toks s)
+    (gnu_holds_leads ctx file at (drop 2 toks) s) (opens_with_leads ctx k file at toks s)
+
+opens_leads : (ctx : Context) (file : SourceFile) (k : ℕ) (i : ItemText) (sections : List Section) (s : State) → IfDone (Steps ctx s) (opens ctx file k i sections s)
 opens_leads ctx file k i sections s =
     cond_done (Steps ctx s) (are_processed sections) _ (only (stepped [] (section i.at Skipped false ∷ sections)) s)
     (noted_done (Steps ctx s) (Reaches file.number k (is_if i.kind) s.before ∷ []) _
-    (onward_done (Behind {A = Bool} ctx s) (Steps ctx s) (opens_with i.kind file i.at i.toks s) _ (opens_with_leads ctx i.kind file i.at i.toks s) (λ b t h. h)))
+    (onward_done (Behind {A = Bool} ctx s) (Steps ctx s) (opens_in ctx i.kind file i.at i.toks s) _ (opens_in_leads ctx i.kind file i.at i.toks s) (λ b t h. h)))
     (leads_refl ctx s)
 
 goes_with_leads : (ctx : Context) (k : ItemKind) (file : SourceFile) (at : Pos) (toks : List Token) (s : State)
@@ -209,11 +267,16 @@ goes_with_leads ctx kind.Error file at toks s = holds_leads ctx file at (drop 2 
 goes_with_leads ctx kind.Pragma file at toks s = holds_leads ctx file at (drop 2 toks) s
 goes_with_leads ctx kind.Empty file at toks s = holds_leads ctx file at (drop 2 toks) s
 
+goes_in_leads : (ctx : Context) (k : ItemKind) (file : SourceFile) (at : Pos) (toks : List Token) (s : State) → IfDone (Behind {A = Bool} ctx s) (goes_in ctx k file at toks s)
+goes_in_leads ctx k file at toks s =
+    cond_done (Behind {A = Bool} ctx s) (asks_files ctx.unit.standard k) (gnu_holds ctx file at (drop 2 toks) s) (goes_with k file at toks s)
+    (gnu_holds_leads ctx file at (drop 2 toks) s) (goes_with_leads ctx k file at toks s)
+
 goes_on_leads : (ctx : Context) (file : SourceFile) (k : ℕ) (i : ItemText) (open_ : Section) (sections : List Section) (s : State) (g : Group)
-    → IfDone (Steps ctx s) (goes_on file k i open_ sections s g)
+    → IfDone (Steps ctx s) (goes_on ctx file k i open_ sections s g)
 goes_on_leads ctx file k i open_ sections s Awaited =
     noted_done (Steps ctx s) (Reaches file.number k true s.before ∷ []) _
-    (onward_done (Behind {A = Bool} ctx s) (Steps ctx s) (goes_with i.kind file i.at i.toks s) _ (goes_with_leads ctx i.kind file i.at i.toks s) (λ b t h. h))
+    (onward_done (Behind {A = Bool} ctx s) (Steps ctx s) (goes_in ctx i.kind file i.at i.toks s) _ (goes_in_leads ctx i.kind file i.at i.toks s) (λ b t h. h))
 goes_on_leads ctx file k i open_ sections s Skipped = leads_refl ctx s
 goes_on_leads ctx file k i open_ sections s Processed = leads_refl ctx s
 goes_on_leads ctx file k i open_ sections s Over = leads_refl ctx s

@@ -4,6 +4,7 @@ use Rattle.std.specs.Prelude.{IfSome, slice_get}
 use Rattle.std.proofs.lemmas.List.{append-nil}
 use Rattle.cs_base.specs.Token.{Token}
 use Rattle.cs_base.specs.declared.positions.Pos.{Pos}
+use Rattle.cs_base.proofs.ListLemmas.{drop-some}
 use Rattle.source_files.specs.Files.{SourceFile}
 use Rattle.source_files.specs.Faults.{Fault}
 use Rattle.unit_steps.specs.Notes.{Note, Entered, Exited}
@@ -19,15 +20,10 @@ use Rattle.unit_steps.specs.Keeping.{noted_in, put_in, put_after}
 use Rattle.include_tree.specs.OpenSections.{innermost_of}
 use Rattle.include_tree.specs.Walking.{stepped_after, inner_in}
 use Rattle.unit_steps.proofs.KeepingLemmas.{noted_in-append, noted_in-nil, put-noted}
-use Rattle.include_tree.proofs.StayingLemmas.{some_same}
-use Rattle.include_tree.proofs.WalkingLemmas.{put-only, fault_on}
+use Rattle.unit_steps.proofs.VisitLemmas.{unsaid-known as put-only}
+use Rattle.include_tree.proofs.WalkingLemmas.{fault_on}
 
 -- ---- one item behind another
-
-drop-some : {X : Type 0} (xs : List X) (k : ℕ) (x : X) → slice_get xs k ≡ Some x → drop k xs ≡ x ∷ drop (k + 1) xs
-drop-some {X} [] k x h = absurd (let none : ◌≡◌ {A = Option X} None (Some x) = h in cc)
-drop-some (y ∷ xs) zero x h = ap (λ z. z ∷ xs) (some_same y x h)
-drop-some (y ∷ xs) (suc k) x h = let n : suc k + 1 ≡ suc (k + 1) = omega arith in rw n (drop-some xs k x h)
 
 get-some : {X : Type 0} (xs : List X) (k : ℕ) → k < length xs → (x : X) × (slice_get xs k ≡ Some x)
 get-some [] k h = absurd (omega (arith, h))

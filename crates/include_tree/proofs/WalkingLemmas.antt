@@ -1,5 +1,5 @@
 -- Items and sections, one step at a time.
-use Rattle.std.proofs.Common.{◌≡◌, ℕ, Bool, true, false, List, [], ◌∷◌, drop, length, Option, Some, None, Result, Ok, Err, refl, sym, ◌∙◌, ap, subst}
+use Rattle.std.proofs.Common.{◌≡◌, ℕ, Bool, true, false, List, [], ◌∷◌, map, drop, length, Option, Some, None, Result, Ok, Err, refl, sym, ◌∙◌, ap, subst}
 use Rattle.std.specs.Prelude.{IfSome}
 use Rattle.std.specs.Result.{IsErrAnd}
 use Rattle.std.proofs.lemmas.List.{append-nil}
@@ -14,24 +14,29 @@ use Rattle.source_files.specs.Below.line_shape.declared.items.GnuLine.{GnuLine}
 use Rattle.source_files.specs.Below.line_shape.declared.items.GnuLine.TheVariants as gnu
 use Rattle.source_files.specs.declared.pre_fault.PreFault.{PreFault}
 use Rattle.unit_steps.specs.declared.progress.Progress.{Progress}
-use Rattle.include_tree.specs.declared.item_steps.IncludeLine.{IncludeLine}
+use Rattle.include_tree.specs.declared.asking.ConditionLine.{ConditionLine}
+use Rattle.include_tree.specs.declared.item_steps.FileLine.{FileLine}
+use Rattle.include_tree.specs.declared.item_steps.FileLine.TheVariants as line
 use Rattle.source_files.specs.Files.{Table, SourceFile}
 use Rattle.source_files.specs.Faults.{Fault}
 use Rattle.unit_steps.specs.Notes.{Note, Reaches}
 use Rattle.unit_steps.specs.State.{Context, State, Outcome, only, noted, onward}
-use Rattle.include_tree.specs.Sections.{Group, Awaited, Skipped, Section, section, are_processed, is_alive, group_if, Turn, Stays}
+use Rattle.include_tree.specs.Sections.{Group, Processed, Awaited, Over, Skipped, Section, section, is_awaited, are_processed, is_alive, group_if, Turn, Stays}
 use Rattle.source_files.specs.Search.{Header}
+use Rattle.unit_steps.specs.Questions.{Question, questions_from, question_of}
 use Rattle.unit_steps.specs.Directives.{opens_with, goes_with, is_if, define_of, pragma_of}
 use Rattle.include_tree.specs.Including.{Inner, included}
 use Rattle.unit_steps.specs.IncludeNames.{header_named, next_named}
-use Rattle.include_tree.specs.Walk.{ItemText, processed_line, processed, Stepped, stepped, go_on, opens, goes_on, reaching_alive, turned, foreign_line}
+use Rattle.include_tree.specs.Asking.{gnu_answered, gnu_holds, asks_files, opens_in, goes_in}
+use Rattle.include_tree.specs.Walk.{ItemText, processed_line, processed, Stepped, stepped, opens, goes_on, reaching_alive, turned, foreign_line}
 use Rattle.unit_steps.specs.Texts.{UnitTextValue}
 use Rattle.source_files.specs.Answers.{fault_of}
 use Rattle.unit_steps.specs.Keeping.{noted_in, put_in, kept_after, put_after}
 use Rattle.unit_steps.specs.Moments.{state_in}
-use Rattle.include_tree.specs.Walking.{stepped_after, with_sections, GivesLine, GivesItem}
+use Rattle.include_tree.specs.Walking.{stepped_after, with_sections, asked_line, GivesLine, GivesItem}
 use Rattle.unit_steps.proofs.KeepingLemmas.{noted_in-append, noted_in-nil, put-nil}
 use Rattle.unit_steps.proofs.GoingLemmas.{put-onward, put-onward_fault, done_same, err_same}
+use Rattle.unit_steps.proofs.VisitLemmas.{unsaid-known as put-only}
 
 -- ---- faults
 
@@ -49,9 +54,6 @@ put_noted-nil k = ap (λ (t : UnitTextValue). put_in t []) (noted_in-nil k) ∙ 
 -- nothing is put out, and nothing happens
 pub stepped-only : (k : UnitTextValue) (sections : List Section) (s : State) → stepped_after k (only (stepped [] sections) s) ≡ Ok (sections, s, k)
 stepped-only k sections s = ap (λ (t : UnitTextValue). Ok (sections, s, t)) (put_noted-nil k)
-
-pub put-only : (k : UnitTextValue) (s : State) → put_after k (only [] s) ≡ Ok (s, k)
-put-only k s = ap (λ (t : UnitTextValue). Ok (s, t)) (put_noted-nil k)
 
 pub stepped-noted : (k : UnitTextValue) (notes : List Note) (m : Outcome Stepped) → stepped_after k (noted notes m) ≡ stepped_after (noted_in k notes) m
 stepped-noted k notes (Ok d) = ap (λ (t : UnitTextValue). Ok (d.value.sections, d.state, put_in t d.value.toks)) (noted_in-append k notes d.notes)
@@ -86,86 +88,109 @@ skipped-only k file n g sections s skipped = rw skipped (stepped-only k sections
 
 -- ---- a section is opened
 
-pub opens-skipped : (k : UnitTextValue) (file : SourceFile) (n : ℕ) (i : ItemText) (sections : List Section) (s : State) → are_processed sections ≡ false
-    → stepped_after k (opens file n i sections s) ≡ Ok (section i.at Skipped false ∷ sections, s, k)
-opens-skipped k file n i sections s skipped = rw skipped (stepped-only k (section i.at Skipped false ∷ sections) s)
+pub opens-skipped : (ctx : Context) (k : UnitTextValue) (file : SourceFile) (n : ℕ) (i : ItemText) (sections : List Section) (s : State) → are_processed sections ≡ false
+    → stepped_after k (opens ctx file n i sections s) ≡ Ok (section i.at Skipped false ∷ sections, s, k)
+opens-skipped ctx k file n i sections s skipped = rw skipped (stepped-only k (section i.at Skipped false ∷ sections) s)
 
-pub opens-asked : (k k2 : UnitTextValue) (file : SourceFile) (n : ℕ) (i : ItemText) (sections : List Section) (s : State) (b : Bool) (t : State)
-    → are_processed sections ≡ true → kept_after (reached_text k file n (is_if i.kind) s) (opens_with i.kind file i.at i.toks s) ≡ Ok (b, t, k2)
-    → stepped_after k (opens file n i sections s) ≡ Ok (section i.at (group_if b) false ∷ sections, t, k2)
-opens-asked k k2 file n i sections s b t inside h =
-    let next : Bool → State → Outcome Stepped = λ (c : Bool) (u : State). only (stepped [] (section i.at (group_if c) false ∷ sections)) u in
-    rw inside (stepped-noted k (Reaches file.number n (is_if i.kind) s.before ∷ []) (onward (opens_with i.kind file i.at i.toks s) next)
-    ∙ stepped-onward (reached_text k file n (is_if i.kind) s) k2 (opens_with i.kind file i.at i.toks s) next b t h
-    ∙ stepped-only k2 (section i.at (group_if b) false ∷ sections) t)
+-- the section that a condition opens or goes on with
+abbrev pub section_with : Pos → List Section → Bool → State → Outcome Stepped
+section_with opening sections b u = only (stepped [] (section opening (group_if b) false ∷ sections)) u
 
-pub opens-fault : (k : UnitTextValue) (file : SourceFile) (n : ℕ) (i : ItemText) (sections : List Section) (s : State) (f : Fault)
-    → are_processed sections ≡ true → kept_after (reached_text k file n (is_if i.kind) s) (opens_with i.kind file i.at i.toks s) ≡ Err f
-    → stepped_after k (opens file n i sections s) ≡ Err f
-opens-fault k file n i sections s f inside h =
-    let next : Bool → State → Outcome Stepped = λ (c : Bool) (u : State). only (stepped [] (section i.at (group_if c) false ∷ sections)) u in
-    rw inside (stepped-noted k (Reaches file.number n (is_if i.kind) s.before ∷ []) (onward (opens_with i.kind file i.at i.toks s) next)
-    ∙ stepped-onward_fault (reached_text k file n (is_if i.kind) s) (opens_with i.kind file i.at i.toks s) next f h)
+-- a condition, as it is asked
+abbrev pub asked_so : (State → Outcome Bool) → Pos → List Section → State → Outcome Stepped
+asked_so ask opening sections s = onward (ask s) (section_with opening sections)
 
--- the same by what is known when the item was reached
-module _ (file : SourceFile) (n : ℕ) (i : ItemText) (sections : List Section) (table : Table) (p p1 : Progress) (e : Bool) (is : e ≡ is_if i.kind)
+pub section-done : (k k2 : UnitTextValue) (m : Outcome Bool) (opening : Pos) (sections : List Section) (b : Bool) (t : State) → kept_after k m ≡ Ok (b, t, k2)
+    → stepped_after k (onward m (section_with opening sections)) ≡ Ok (section opening (group_if b) false ∷ sections, t, k2)
+section-done k k2 m opening sections b t h =
+    stepped-onward k k2 m (section_with opening sections) b t h ∙ stepped-only k2 (section opening (group_if b) false ∷ sections) t
+
+pub section-fault : (k : UnitTextValue) (m : Outcome Bool) (opening : Pos) (sections : List Section) (f : Fault) → kept_after k m ≡ Err f
+    → stepped_after k (onward m (section_with opening sections)) ≡ Err f
+section-fault k m opening sections f h = stepped-onward_fault k m (section_with opening sections) f h
+
+-- the same of a condition that is left to the caller
+pub line-given : (ctx : Context) (file : SourceFile) (l : ConditionLine) (at opening : Pos) (toks : List Token) (sections : List Section) (s : State) (k : UnitTextValue)
+    → l.at ≡ at → l.opening ≡ opening → map question_of l.questions.items ≡ questions_from true 0 toks
+    → stepped_after k (asked_so (gnu_holds ctx file at toks) opening sections s) ≡ stepped_after k (asked_line ctx file l sections s)
+line-given ctx file l at opening toks sections s k place begins pieces =
+    ap (λ (qs : List Question). stepped_after k (onward (gnu_answered ctx file at qs s) (section_with opening sections))) (sym pieces)
+    ∙ ap (λ (a : Pos). stepped_after k (onward (gnu_answered ctx file a (map question_of l.questions.items) s) (section_with opening sections))) (sym place)
+    ∙ ap (λ (o : Pos). stepped_after k (onward (gnu_answered ctx file l.at (map question_of l.questions.items) s) (section_with o sections))) (sym begins)
+
+-- a line whose condition is asked when the item was reached
+module _ (ctx : Context) (file : SourceFile) (n : ℕ) (i : ItemText) (sections : List Section) (table : Table) (p p1 : Progress) (e : Bool) (is : e ≡ is_if i.kind)
     (reaches : p1 ≡ record p { text = noted_in p.text (Reaches file.number n e (length p.text.toks) ∷ []) }) (inside : are_processed sections ≡ true) where
-  opens-from : (x : Result (Bool × State × UnitTextValue) Fault) → kept_after p1.text (opens_with i.kind file i.at i.toks (state_in table p1)) ≡ x
-      → kept_after (reached_text p.text file n (is_if i.kind) (state_in table p)) (opens_with i.kind file i.at i.toks (state_in table p)) ≡ x
-  opens-from x h =
-      subst (λ (b : Bool). kept_after (reached_text p.text file n b (state_in table p)) (opens_with i.kind file i.at i.toks (state_in table p)) ≡ x) is
-      (subst (λ (q : Progress). kept_after q.text (opens_with i.kind file i.at i.toks (state_in table q)) ≡ x) reaches h)
+  -- it is the condition that decides, from what is known then
+  opens-from : (ask : State → Outcome Bool) → ((s : State) → opens_in ctx i.kind file i.at i.toks s ≡ ask s)
+      → stepped_after p.text (opens ctx file n i sections (state_in table p)) ≡ stepped_after p1.text (asked_so ask i.at sections (state_in table p1))
+  opens-from ask same =
+      let s : State = state_in table p in
+      rw (inside, same s)
+      (stepped-noted p.text (Reaches file.number n (is_if i.kind) s.before ∷ []) (asked_so ask i.at sections s)
+      ∙ ap (λ (b : Bool). stepped_after (reached_text p.text file n b s) (asked_so ask i.at sections s)) (sym is)
+      ∙ ap (λ (q : Progress). stepped_after q.text (asked_so ask i.at sections (state_in table q))) (sym reaches))
 
-  pub opens-step : (b : Bool) (t : State) (k2 : UnitTextValue) → kept_after p1.text (opens_with i.kind file i.at i.toks (state_in table p1)) ≡ Ok (b, t, k2)
-      → stepped_after p.text (opens file n i sections (state_in table p)) ≡ Ok (section i.at (group_if b) false ∷ sections, t, k2)
-  opens-step b t k2 h = opens-asked p.text k2 file n i sections (state_in table p) b t inside (opens-from (Ok (b, t, k2)) h)
+  -- in a unit of GNU C it is left to the caller
+  pub opens-left : asks_files ctx.unit.standard i.kind ≡ true
+      → stepped_after p.text (opens ctx file n i sections (state_in table p)) ≡ stepped_after p1.text (asked_so (gnu_holds ctx file i.at (drop 2 i.toks)) i.at sections (state_in table p1))
+  opens-left asks = opens-from (gnu_holds ctx file i.at (drop 2 i.toks)) (λ s. rw asks refl)
 
-  pub opens-step_fault : (found : Option Fault) → IfSome found (λ f. kept_after p1.text (opens_with i.kind file i.at i.toks (state_in table p1)) ≡ Err f)
-      → IfSome found (λ f. stepped_after p.text (opens file n i sections (state_in table p)) ≡ Err f)
-  opens-step_fault found h =
-      fault_on found (kept_after p1.text (opens_with i.kind file i.at i.toks (state_in table p1))) (stepped_after p.text (opens file n i sections (state_in table p))) h
-      (λ f same. opens-fault p.text file n i sections (state_in table p) f inside (opens-from (Err f) same))
+  module _ (here : asks_files ctx.unit.standard i.kind ≡ false) where
+    opens-here : stepped_after p.text (opens ctx file n i sections (state_in table p)) ≡ stepped_after p1.text (asked_so (opens_with i.kind file i.at i.toks) i.at sections (state_in table p1))
+    opens-here = opens-from (opens_with i.kind file i.at i.toks) (λ s. rw here refl)
+
+    pub opens-step : (b : Bool) (t : State) (k2 : UnitTextValue) → kept_after p1.text (opens_with i.kind file i.at i.toks (state_in table p1)) ≡ Ok (b, t, k2)
+        → stepped_after p.text (opens ctx file n i sections (state_in table p)) ≡ Ok (section i.at (group_if b) false ∷ sections, t, k2)
+    opens-step b t k2 h = opens-here ∙ section-done p1.text k2 (opens_with i.kind file i.at i.toks (state_in table p1)) i.at sections b t h
+
+    pub opens-step_fault : (found : Option Fault) → IfSome found (λ f. kept_after p1.text (opens_with i.kind file i.at i.toks (state_in table p1)) ≡ Err f)
+        → IfSome found (λ f. stepped_after p.text (opens ctx file n i sections (state_in table p)) ≡ Err f)
+    opens-step_fault found h =
+        fault_on found (kept_after p1.text (opens_with i.kind file i.at i.toks (state_in table p1))) (stepped_after p.text (opens ctx file n i sections (state_in table p))) h
+        (λ f same. opens-here ∙ section-fault p1.text (opens_with i.kind file i.at i.toks (state_in table p1)) i.at sections f same)
 
 -- ---- the next group
 
-pub asked-done : (k k2 : UnitTextValue) (file : SourceFile) (n : ℕ) (i : ItemText) (open_ : Section) (around : List Section) (s : State) (g : Group) (b : Bool) (t : State)
-    → g ≡ Awaited → kept_after (reached_text k file n true s) (goes_with i.kind file i.at i.toks s) ≡ Ok (b, t, k2)
-    → stepped_after k (goes_on file n i open_ around s g) ≡ Ok (section open_.opening (group_if b) false ∷ around, t, k2)
-asked-done k k2 file n i open_ around s g b t is h =
-    let next : Bool → State → Outcome Stepped = λ (c : Bool) (u : State). only (go_on open_ (group_if c) false around) u in
-    rw is (stepped-noted k (Reaches file.number n true s.before ∷ []) (onward (goes_with i.kind file i.at i.toks s) next)
-    ∙ stepped-onward (reached_text k file n true s) k2 (goes_with i.kind file i.at i.toks s) next b t h
-    ∙ stepped-only k2 (section open_.opening (group_if b) false ∷ around) t)
-
-pub asked-fault : (k : UnitTextValue) (file : SourceFile) (n : ℕ) (i : ItemText) (open_ : Section) (around : List Section) (s : State) (g : Group) (f : Fault)
-    → g ≡ Awaited → kept_after (reached_text k file n true s) (goes_with i.kind file i.at i.toks s) ≡ Err f
-    → stepped_after k (goes_on file n i open_ around s g) ≡ Err f
-asked-fault k file n i open_ around s g f is h =
-    let next : Bool → State → Outcome Stepped = λ (c : Bool) (u : State). only (go_on open_ (group_if c) false around) u in
-    rw is (stepped-noted k (Reaches file.number n true s.before ∷ []) (onward (goes_with i.kind file i.at i.toks s) next)
-    ∙ stepped-onward_fault (reached_text k file n true s) (goes_with i.kind file i.at i.toks s) next f h)
+awaited-is : (g : Group) → is_awaited g ≡ true → g ≡ Awaited
+awaited-is Awaited h = refl
+awaited-is Processed h = absurd (cc)
+awaited-is Over h = absurd (cc)
+awaited-is Skipped h = absurd (cc)
 
 -- the same by what is known when the item was reached
-module _ (file : SourceFile) (n : ℕ) (i : ItemText) (open_ : Section) (around : List Section) (table : Table) (p p1 : Progress)
+module _ (ctx : Context) (file : SourceFile) (n : ℕ) (i : ItemText) (open_ : Section) (around : List Section) (table : Table) (p p1 : Progress)
     (reaches : p1 ≡ record p { text = noted_in p.text (Reaches file.number n true (length p.text.toks) ∷ []) }) where
-  asked-from : (x : Result (Bool × State × UnitTextValue) Fault) → kept_after p1.text (goes_with i.kind file i.at i.toks (state_in table p1)) ≡ x
-      → kept_after (reached_text p.text file n true (state_in table p)) (goes_with i.kind file i.at i.toks (state_in table p)) ≡ x
-  asked-from x h =
-      subst (λ (q : Progress). kept_after q.text (goes_with i.kind file i.at i.toks (state_in table q)) ≡ x) reaches h
+  asked-from : (ask : State → Outcome Bool) → ((s : State) → goes_in ctx i.kind file i.at i.toks s ≡ ask s) → (g : Group) → g ≡ Awaited
+      → stepped_after p.text (goes_on ctx file n i open_ around (state_in table p) g) ≡ stepped_after p1.text (asked_so ask open_.opening around (state_in table p1))
+  asked-from ask same g is =
+      let s : State = state_in table p in
+      rw (is, same s)
+      (stepped-noted p.text (Reaches file.number n true s.before ∷ []) (asked_so ask open_.opening around s)
+      ∙ ap (λ (q : Progress). stepped_after q.text (asked_so ask open_.opening around (state_in table q))) (sym reaches))
 
-  pub asked-step : (b : Bool) (t : State) (k2 : UnitTextValue) → kept_after p1.text (goes_with i.kind file i.at i.toks (state_in table p1)) ≡ Ok (b, t, k2)
-      → stepped_after p.text (goes_on file n i open_ around (state_in table p) Awaited) ≡ Ok (section open_.opening (group_if b) false ∷ around, t, k2)
-  asked-step b t k2 h = asked-done p.text k2 file n i open_ around (state_in table p) Awaited b t refl (asked-from (Ok (b, t, k2)) h)
+  -- in a unit of GNU C it is left to the caller
+  pub asked-left : asks_files ctx.unit.standard i.kind ≡ true → is_awaited open_.group ≡ true
+      → stepped_after p.text (goes_on ctx file n i open_ around (state_in table p) open_.group) ≡ stepped_after p1.text (asked_so (gnu_holds ctx file i.at (drop 2 i.toks)) open_.opening around (state_in table p1))
+  asked-left asks waits = asked-from (gnu_holds ctx file i.at (drop 2 i.toks)) (λ s. rw asks refl) open_.group (awaited-is open_.group waits)
 
-  pub asked-step_fault : (found : Option Fault) → IfSome found (λ f. kept_after p1.text (goes_with i.kind file i.at i.toks (state_in table p1)) ≡ Err f)
-      → IfSome found (λ f. stepped_after p.text (goes_on file n i open_ around (state_in table p) Awaited) ≡ Err f)
-  asked-step_fault found h =
-      fault_on found (kept_after p1.text (goes_with i.kind file i.at i.toks (state_in table p1))) (stepped_after p.text (goes_on file n i open_ around (state_in table p) Awaited)) h
-      (λ f same. asked-fault p.text file n i open_ around (state_in table p) Awaited f refl (asked-from (Err f) same))
+  module _ (here : asks_files ctx.unit.standard i.kind ≡ false) where
+    asked-here : stepped_after p.text (goes_on ctx file n i open_ around (state_in table p) Awaited) ≡ stepped_after p1.text (asked_so (goes_with i.kind file i.at i.toks) open_.opening around (state_in table p1))
+    asked-here = asked-from (goes_with i.kind file i.at i.toks) (λ s. rw here refl) Awaited refl
 
-pub skipped-on : (k : UnitTextValue) (file : SourceFile) (n : ℕ) (i : ItemText) (open_ : Section) (around : List Section) (s : State) (g : Group)
-    → g ≡ Skipped → stepped_after k (goes_on file n i open_ around s g) ≡ Ok (section open_.opening Skipped false ∷ around, s, k)
-skipped-on k file n i open_ around s g is = rw is (stepped-only k (section open_.opening Skipped false ∷ around) s)
+    pub asked-step : (b : Bool) (t : State) (k2 : UnitTextValue) → kept_after p1.text (goes_with i.kind file i.at i.toks (state_in table p1)) ≡ Ok (b, t, k2)
+        → stepped_after p.text (goes_on ctx file n i open_ around (state_in table p) Awaited) ≡ Ok (section open_.opening (group_if b) false ∷ around, t, k2)
+    asked-step b t k2 h = asked-here ∙ section-done p1.text k2 (goes_with i.kind file i.at i.toks (state_in table p1)) open_.opening around b t h
+
+    pub asked-step_fault : (found : Option Fault) → IfSome found (λ f. kept_after p1.text (goes_with i.kind file i.at i.toks (state_in table p1)) ≡ Err f)
+        → IfSome found (λ f. stepped_after p.text (goes_on ctx file n i open_ around (state_in table p) Awaited) ≡ Err f)
+    asked-step_fault found h =
+        fault_on found (kept_after p1.text (goes_with i.kind file i.at i.toks (state_in table p1))) (stepped_after p.text (goes_on ctx file n i open_ around (state_in table p) Awaited)) h
+        (λ f same. asked-here ∙ section-fault p1.text (goes_with i.kind file i.at i.toks (state_in table p1)) open_.opening around f same)
+
+pub skipped-on : (ctx : Context) (k : UnitTextValue) (file : SourceFile) (n : ℕ) (i : ItemText) (open_ : Section) (around : List Section) (s : State) (g : Group)
+    → g ≡ Skipped → stepped_after k (goes_on ctx file n i open_ around s g) ≡ Ok (section open_.opening Skipped false ∷ around, s, k)
+skipped-on ctx k file n i open_ around s g is = rw is (stepped-only k (section open_.opening Skipped false ∷ around) s)
 
 -- ---- items that leave the sections
 
@@ -186,15 +211,16 @@ module _ (ctx : Context) (inner : Inner) (file : SourceFile) (n : ℕ) (i : Item
       ∙ toks-only (reached_text k file n false s) (processed ctx inner file i.kind i.at i.toks s) sections)
 
 -- what a line gives that leaves the sections
-line-item : (ctx : Context) (inner : Inner) (file : SourceFile) (r : Result (Option IncludeLine) PreFault) (sections : List Section) (t : State) (k2 : UnitTextValue)
+line-item : (ctx : Context) (inner : Inner) (file : SourceFile) (r : Result (Option FileLine) PreFault) (sections : List Section) (t : State) (k2 : UnitTextValue)
     (x : Result (State × UnitTextValue) Fault) (y : Result (List Section × State × UnitTextValue) Fault) → y ≡ with_sections sections x
     → GivesLine ctx inner file r t k2 x → GivesItem ctx inner file r sections t k2 y
 line-item ctx inner file (Ok None) sections t k2 x y is h = is ∙ ap (with_sections sections) h
-line-item ctx inner file (Ok (Some line)) sections t k2 x y is h = is ∙ ap (with_sections sections) h
+line-item ctx inner file (Ok (Some (line.Include l))) sections t k2 x y is h = is ∙ ap (with_sections sections) h
+line-item ctx inner file (Ok (Some (line.Condition l))) sections t k2 x y is h = absurd h
 line-item ctx inner file (Err e) sections t k2 x y is h = fault_on (fault_of e) x y h (λ f same. is ∙ ap (with_sections sections) same)
 
 pub stays-line : (ctx : Context) (inner : Inner) (file : SourceFile) (n : ℕ) (i : ItemText) (s : State) (k : UnitTextValue) (sections : List Section)
-    (r : Result (Option IncludeLine) PreFault) (t : State) (k2 : UnitTextValue) → are_processed sections ≡ true
+    (r : Result (Option FileLine) PreFault) (t : State) (k2 : UnitTextValue) → are_processed sections ≡ true
     → GivesLine ctx inner file r t k2 (put_after (reached_text k file n false s) (processed ctx inner file i.kind i.at i.toks s))
     → GivesItem ctx inner file r sections t k2 (turns ctx inner file n i s k Stays sections)
 stays-line ctx inner file n i s k sections r t k2 inside h =
@@ -202,7 +228,7 @@ stays-line ctx inner file n i s k sections r t k2 inside h =
 
 -- the same by what is known when the item was reached
 pub stays-step : (ctx : Context) (inner : Inner) (file : SourceFile) (n : ℕ) (i : ItemText) (sections : List Section) (table : Table) (p p1 : Progress)
-    (r : Result (Option IncludeLine) PreFault) (t : State) (k2 : UnitTextValue) → p1 ≡ record p { text = noted_in p.text (Reaches file.number n false (length p.text.toks) ∷ []) }
+    (r : Result (Option FileLine) PreFault) (t : State) (k2 : UnitTextValue) → p1 ≡ record p { text = noted_in p.text (Reaches file.number n false (length p.text.toks) ∷ []) }
     → are_processed sections ≡ true → GivesLine ctx inner file r t k2 (put_after p1.text (processed ctx inner file i.kind i.at i.toks (state_in table p1)))
     → GivesItem ctx inner file r sections t k2 (turns ctx inner file n i (state_in table p) p.text Stays sections)
 stays-step ctx inner file n i sections table p p1 r t k2 reaches inside h =
@@ -228,9 +254,9 @@ include-next-step ctx inner line file at toks behind s k k2 h t is same named =
     (subst (λ (ts : List Token). kept_after k (next_named file at ts s) ≡ Ok (h, t, k2)) same named)
 
 -- a fault that is handed on
-pub line-stopped : (ctx : Context) (inner : Inner) (file : SourceFile) (e : PreFault) (r : Result (Option IncludeLine) PreFault) (t : State) (k2 : UnitTextValue) (expected : Result (State × UnitTextValue) Fault)
+pub line-stopped : (ctx : Context) (inner : Inner) (file : SourceFile) (e : PreFault) (r : Result (Option FileLine) PreFault) (t : State) (k2 : UnitTextValue) (expected : Result (State × UnitTextValue) Fault)
     → IsErrAnd r (λ x. x ≡ e) → IfSome (fault_of e) (λ f. expected ≡ Err f) → GivesLine ctx inner file r t k2 expected
-line-stopped ctx inner file e (Ok line) t k2 expected same h = absurd same
+line-stopped ctx inner file e (Ok l) t k2 expected same h = absurd same
 line-stopped ctx inner file e (Err x) t k2 expected same h = subst (λ (y : PreFault). IfSome (fault_of y) (λ f. expected ≡ Err f)) (sym same) h
 
 pub include-next-stopped : (ctx : Context) (inner : Inner) (line : GnuLine) (file : SourceFile) (at : Pos) (toks behind : List Token) (s : State) (k : UnitTextValue) (found : Option Fault)

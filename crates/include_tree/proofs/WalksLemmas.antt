@@ -7,6 +7,8 @@ use Rattle.cs_base.specs.declared.ws_units.Standard.{Standard}
 use Rattle.cs_base.specs.Units.{UnitValue}
 use Rattle.source_files.specs.declared.pre_fault.PreFault.{PreFault}
 use Rattle.unit_steps.specs.declared.progress.Progress.{Progress}
+use Rattle.include_tree.specs.declared.item_steps.FileLine.{FileLine}
+use Rattle.include_tree.specs.declared.item_steps.FileLine.TheVariants as line
 use Rattle.include_tree.specs.declared.item_steps.IncludeLine.{IncludeLine}
 use Rattle.source_files.specs.Files.{Source, Table, SourceFile}
 use Rattle.source_files.specs.Faults.{Fault}
@@ -24,7 +26,7 @@ use Rattle.include_tree.specs.GivenFiles.{unit_context, GivesFile}
 use Rattle.source_files.specs.Answers.{fault_of}
 use Rattle.unit_steps.specs.Keeping.{noted_in, put_after}
 use Rattle.unit_steps.specs.Moments.{state_in}
-use Rattle.include_tree.specs.Walking.{stepped_after, with_sections, inner_in, GivesItem}
+use Rattle.include_tree.specs.Walking.{stepped_after, with_sections, inner_in, given_line, GivesItem}
 use Rattle.unit_steps.proofs.KeepingLemmas.{put-nil}
 use Rattle.include_tree.proofs.StayingLemmas.{some_all, some_three, some_at, source-number}
 use Rattle.include_tree.proofs.WalkingLemmas.{fault_on}
@@ -45,7 +47,7 @@ gives-along r s k x y is h = subst (λ (z : Result (State × UnitTextValue) Faul
 
 -- an item that is no include line, or whose own part has a fault
 pub item-told : (source : Source) (q : Option SourceFile) (unit : UnitValue) (toks most room k : ℕ) (sections more : List Section) (s t : State) (text new : UnitTextValue)
-    (r : Result (Option IncludeLine) PreFault) (standard : Standard) → most ≡ unit_most toks → standard ≡ unit.standard
+    (r : Result (Option FileLine) PreFault) (standard : Standard) → most ≡ unit_most toks → standard ≡ unit.standard
     → ((ctx : Context) (inner : Inner) → most_toks ctx ≡ most → ctx.unit.standard ≡ standard
     → IfSome q (λ file. IfSome (slice_get (items_in file) k) (λ i. GivesItem ctx inner file r more t new (stepped_after text (item_step ctx inner file k i sections s)))))
     → IfSome q (λ file. IfSome (slice_get (items_in file) k) (λ i.
@@ -54,28 +56,40 @@ pub item-told : (source : Source) (q : Option SourceFile) (unit : UnitValue) (to
 item-told source q unit toks most room k sections more s t text new r standard limit is h =
     h (unit_context source unit toks) (inner_in (unit_context source unit toks) room) (sym limit) (sym is)
 
-item-of : (ctx : Context) (inner : Inner) (file : SourceFile) (z : Option ItemText) (k : ℕ) (sections more : List Section) (s t u : State) (text new newer : UnitTextValue)
-    (line : IncludeLine) (r : Result (Unit {0}) PreFault)
-    → IfSome z (λ i. GivesItem ctx inner file (Ok (Some line)) more t new (stepped_after text (item_step ctx inner file k i sections s)))
-    → Gives (λ _. (u, newer)) fault_of r (put_after new (included ctx inner file line.at line.next line.header t))
-    → IfSome z (λ i. Gives (λ _. (more, u, newer)) fault_of r (stepped_after text (item_step ctx inner file k i sections s)))
-item-of ctx inner file None k sections more s t u text new newer line r h g = tt
-item-of ctx inner file (Some i) k sections more s t u text new newer line r h g =
-    gives-sections r more u newer (put_after new (included ctx inner file line.at line.next line.header t)) (stepped_after text (item_step ctx inner file k i sections s)) h g
+gives-same : {A : Type 0} (r : Result (Unit {0}) PreFault) (v : A) (x y : Result A Fault) → y ≡ x → Gives (λ _. v) fault_of r x → Gives (λ _. v) fault_of r y
+gives-same {A} r v x y is h = subst (λ (z : Result A Fault). Gives (λ _. v) fault_of r z) (sym is) h
+
+item-of : (ctx : Context) (inner : Inner) (file : SourceFile) (z : Option ItemText) (k : ℕ) (sections more last : List Section) (s t u : State) (text new newer : UnitTextValue)
+    (l : FileLine) (r : Result (Unit {0}) PreFault)
+    → IfSome z (λ i. GivesItem ctx inner file (Ok (Some l)) more t new (stepped_after text (item_step ctx inner file k i sections s)))
+    → Gives (λ _. (last, u, newer)) fault_of r (given_line ctx inner file l more t new)
+    → IfSome z (λ i. Gives (λ _. (last, u, newer)) fault_of r (stepped_after text (item_step ctx inner file k i sections s)))
+item-of ctx inner file None k sections more last s t u text new newer l r h g = tt
+item-of ctx inner file (Some i) k sections more last s t u text new newer l r h g =
+    gives-same r (last, u, newer) (given_line ctx inner file l more t new) (stepped_after text (item_step ctx inner file k i sections s)) h g
+
+-- a line for which files were asked
+pub item-included : (source : Source) (q : Option SourceFile) (unit : UnitValue) (toks most room k : ℕ) (sections more last : List Section) (s t u : State) (text new newer : UnitTextValue)
+    (l : FileLine) (r : Result (Unit {0}) PreFault) (standard : Standard) → most ≡ unit_most toks → standard ≡ unit.standard
+    → ((ctx : Context) (inner : Inner) → most_toks ctx ≡ most → ctx.unit.standard ≡ standard
+    → IfSome q (λ file. IfSome (slice_get (items_in file) k) (λ i. GivesItem ctx inner file (Ok (Some l)) more t new (stepped_after text (item_step ctx inner file k i sections s)))))
+    → IfSome q (λ file. Gives (λ _. (last, u, newer)) fault_of r
+    (given_line (unit_context source unit toks) (inner_in (unit_context source unit toks) room) file l more t new))
+    → IfSome q (λ file. IfSome (slice_get (items_in file) k) (λ i. Gives (λ _. (last, u, newer)) fault_of r
+    (stepped_after text (item_step (unit_context source unit toks) (inner_in (unit_context source unit toks) room) file k i sections s))))
+item-included source None unit toks most room k sections more last s t u text new newer l r standard limit is h g = tt
+item-included source (Some file) unit toks most room k sections more last s t u text new newer l r standard limit is h g =
+    item-of (unit_context source unit toks) (inner_in (unit_context source unit toks) room) file (slice_get (items_in file) k) k sections more last s t u text new newer l r
+    (h (unit_context source unit toks) (inner_in (unit_context source unit toks) room) (sym limit) (sym is)) g
 
 -- an include line whose file took its place
-pub item-included : (source : Source) (q : Option SourceFile) (unit : UnitValue) (toks most room k : ℕ) (sections more : List Section) (s t u : State) (text new newer : UnitTextValue)
-    (line : IncludeLine) (r : Result (Unit {0}) PreFault) (standard : Standard) → most ≡ unit_most toks → standard ≡ unit.standard
-    → ((ctx : Context) (inner : Inner) → most_toks ctx ≡ most → ctx.unit.standard ≡ standard
-    → IfSome q (λ file. IfSome (slice_get (items_in file) k) (λ i. GivesItem ctx inner file (Ok (Some line)) more t new (stepped_after text (item_step ctx inner file k i sections s)))))
-    → IfSome q (λ file. Gives (λ _. (u, newer)) fault_of r
-    (put_after new (included (unit_context source unit toks) (inner_in (unit_context source unit toks) room) file line.at line.next line.header t)))
-    → IfSome q (λ file. IfSome (slice_get (items_in file) k) (λ i. Gives (λ _. (more, u, newer)) fault_of r
-    (stepped_after text (item_step (unit_context source unit toks) (inner_in (unit_context source unit toks) room) file k i sections s))))
-item-included source None unit toks most room k sections more s t u text new newer line r standard limit is h g = tt
-item-included source (Some file) unit toks most room k sections more s t u text new newer line r standard limit is h g =
-    item-of (unit_context source unit toks) (inner_in (unit_context source unit toks) room) file (slice_get (items_in file) k) k sections more s t u text new newer line r
-    (h (unit_context source unit toks) (inner_in (unit_context source unit toks) room) (sym limit) (sym is)) g
+pub line-included : (ctx : Context) (inner : Inner) (q : Option SourceFile) (l : IncludeLine) (sections : List Section) (s u : State) (k new : UnitTextValue) (r : Result (Unit {0}) PreFault)
+    → IfSome q (λ file. Gives (λ _. (u, new)) fault_of r (put_after k (included ctx inner file l.at l.next l.header s)))
+    → IfSome q (λ file. Gives (λ _. (sections, u, new)) fault_of r (given_line ctx inner file (line.Include l) sections s k))
+line-included ctx inner None l sections s u k new r h = tt
+line-included ctx inner (Some file) l sections s u k new r h =
+    let m : Result (State × UnitTextValue) Fault = put_after k (included ctx inner file l.at l.next l.header s) in
+    gives-sections r sections u new m (with_sections sections m) refl h
 
 -- ---- an include line
 

@@ -2,6 +2,7 @@
 pub mod Sections
 pub mod OpeningStep
 pub mod Including
+pub mod Asking
 pub mod Walk
 pub mod Unit
 pub mod Preprocessed

@@ -32,6 +32,11 @@ abbrev pub is_alive : Group → Bool
 is_alive Skipped = false
 is_alive _ = true
 
+-- none of its groups was processed yet
+abbrev pub is_awaited : Group → Bool
+is_awaited Awaited = true
+is_awaited _ = false
+
 -- what stands inside these sections, the innermost first, is processed
 abbrev pub are_processed : List Section → Bool
 are_processed [] = true

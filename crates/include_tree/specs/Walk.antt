@@ -17,7 +17,8 @@ use Rattle.unit_steps.specs.Notes.{Reaches}
 use Rattle.unit_steps.specs.State.{Context, State, Outcome, only, noted, onward}
 use Rattle.include_tree.specs.Sections.{Group, Awaited, Skipped, Section, section, is_alive, are_processed, group_if, group_after, group_of_else, Turn, Opens, GoesOn, GoesLast, Ends, Stays, turn_of}
 use Rattle.unit_steps.specs.Expanding.{run_of}
-use Rattle.unit_steps.specs.Directives.{define_of, undef_of, opens_with, goes_with, is_if, pragma_of}
+use Rattle.unit_steps.specs.Directives.{define_of, undef_of, is_if, pragma_of}
+use Rattle.include_tree.specs.Asking.{opens_in, goes_in}
 use Rattle.include_tree.specs.Including.{Process, Inner, include_of, include_next_of}
 
 -- An item with its tokens.
@@ -76,19 +77,19 @@ abbrev pub go_on : Section → Group → Bool → List Section → Stepped
 go_on open_ group after_else sections = stepped [] (section open_.opening group after_else ∷ sections)
 
 -- `if`, `ifdef`, `ifndef`, and a bad line in their place
-abbrev pub opens : SourceFile → ℕ → ItemText → List Section → State → Outcome Stepped
-opens file k i sections s =
+abbrev pub opens : Context → SourceFile → ℕ → ItemText → List Section → State → Outcome Stepped
+opens ctx file k i sections s =
     if are_processed sections then
-    reaching file k (is_if i.kind) s (onward (opens_with i.kind file i.at i.toks s)
+    reaching file k (is_if i.kind) s (onward (opens_in ctx i.kind file i.at i.toks s)
     (λ b t. only (stepped [] (section i.at (group_if b) false ∷ sections)) t))
     else only (stepped [] (section i.at Skipped false ∷ sections)) s
 
 -- `elif`, and in GNU C `elifdef` and `elifndef`: the condition is asked where no group was processed yet
-abbrev pub goes_on : SourceFile → ℕ → ItemText → Section → List Section → State → Group → Outcome Stepped
-goes_on file k i open_ sections s Awaited =
-    reaching file k true s (onward (goes_with i.kind file i.at i.toks s) (λ b t. only (go_on open_ (group_if b) false sections) t))
-goes_on file k i open_ sections s Skipped = only (go_on open_ Skipped false sections) s
-goes_on file k i open_ sections s group = reaching file k false s (only (go_on open_ (group_after group) false sections) s)
+abbrev pub goes_on : Context → SourceFile → ℕ → ItemText → Section → List Section → State → Group → Outcome Stepped
+goes_on ctx file k i open_ sections s Awaited =
+    reaching file k true s (onward (goes_in ctx i.kind file i.at i.toks s) (λ b t. only (go_on open_ (group_if b) false sections) t))
+goes_on ctx file k i open_ sections s Skipped = only (go_on open_ Skipped false sections) s
+goes_on ctx file k i open_ sections s group = reaching file k false s (only (go_on open_ (group_after group) false sections) s)
 
 -- a line that is reached unless its section is skipped
 abbrev pub reaching_alive : {A : Type 0} → SourceFile → ℕ → Group → State → Outcome A → Outcome A
@@ -104,9 +105,9 @@ in_section file i turn (open_ ∷ sections) next =
 
 -- an item by what it does to the sections
 abbrev pub turned : Context → Inner → SourceFile → ℕ → ItemText → List Section → State → Turn → Outcome Stepped
-turned ctx inner file k i sections s Opens = opens file k i sections s
+turned ctx inner file k i sections s Opens = opens ctx file k i sections s
 turned ctx inner file k i sections s GoesOn =
-    in_section file i GoesOn sections (λ open_ around. goes_on file k i open_ around s open_.group)
+    in_section file i GoesOn sections (λ open_ around. goes_on ctx file k i open_ around s open_.group)
 turned ctx inner file k i sections s GoesLast =
     in_section file i GoesLast sections (λ open_ around.
     reaching_alive file k open_.group s (only (go_on open_ (group_of_else open_.group) true around) s))

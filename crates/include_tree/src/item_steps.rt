@@ -1,5 +1,5 @@
 // The items of a file, one at a time: what each gives beside the files that it includes (6.10).
-ghost use Rattle.std.specs.Prelude.{◌≡◌, ◌&&◌, IsTrue, IfErr, Some};
+ghost use Rattle.std.specs.Prelude.{◌≡◌, ◌&&◌, IsTrue, IfOk, IfErr, IfSome, Some};
 ghost use Rattle.std.specs.List.{list_all};
 ghost use Rattle.source_files.specs.Below.line_shape.declared.items.ItemKind.TheVariants.{Define};
 ghost use Rattle.source_files.specs.Below.line_shape.Items.{line_kind};
@@ -18,8 +18,9 @@ ghost use Rattle.unit_steps.specs.Keeping.{put_after};
 ghost use Rattle.unit_steps.specs.SourceTexts.{source_in};
 ghost use Rattle.include_tree.specs.ItemTexts.{item_in};
 ghost use Rattle.unit_steps.specs.Moments.{state_in, IsAble, GoesOn};
-ghost use Rattle.include_tree.specs.Walking.{stepped_after, GivesLine, GivesItem};
+ghost use Rattle.include_tree.specs.Walking.{stepped_after, GivesLine, GivesItem, IsSoundLine};
 
+use crate::asking::ConditionLine;
 use crate::item_toks::ItemToks;
 use crate::section_lines::{
     SectionLine, elif_line, else_line, endif_line, open_section, section_line,
@@ -38,6 +39,13 @@ pub struct IncludeLine {
     pub(crate) header: Header,
 }
 
+/// What an item leaves to the caller, which has the files: an include line, or a condition of GNU C.
+#[derive(Drop)]
+pub enum FileLine {
+    Include(IncludeLine),
+    Condition(ConditionLine),
+}
+
 // A line of a processed group that GNU C alone has, in a unit of GNU C: a message is passed over.
 fn processed_line(
     p: &mut Progress,
@@ -45,21 +53,22 @@ fn processed_line(
     line: GnuLine,
     at: Pos,
     toks: &[Tok],
-) -> Result<Option<IncludeLine>, PreFault>
+) -> Result<Option<FileLine>, PreFault>
     requires sound { IsTrue (list_all (λ t. is_traced t && is_low t) toks.now) }
     requires able { IsAble p.old }
     ensures goes_on { GoesOn p.old p.new result }
     ensures no_read { IfErr result IsNoReadFault }
+    ensures sound { IfOk result (λ l. IfSome l IsSoundLine) }
     ensures answer { (ctx : Context) (inner : Inner) (table : Table) → GivesLine ctx inner (source_in file.now) result (state_in table p.new) p.new.text (put_after p.old.text (processed_line ctx inner line (source_in file.now) at toks.now (state_in table p.old))) }
 {
     match line {
         GnuLine::IncludeNext => {
             let header = p.next_named(file, at, behind_word(toks))?;
-            Ok(Some(IncludeLine {
+            Ok(Some(FileLine::Include(IncludeLine {
                 at,
                 next: true,
                 header,
-            }))
+            })))
         }
         _ => Ok(None),
     }
@@ -71,12 +80,13 @@ fn processed(
     standard: Standard,
     file: &SourceText,
     item: &ItemToks,
-) -> Result<Option<IncludeLine>, PreFault>
+) -> Result<Option<FileLine>, PreFault>
     requires sound { IsTrue (list_all (λ t. is_traced t && is_low t) item.now.toks.now) }
     requires defines { item.now.kind ≡ Define → (line_kind item.now.toks.now ≡ Define) × ((m : Macro) → defined_by item.now.toks.now ≡ Some m → IsTrue (list_all is_traced m.body)) }
     requires able { IsAble p.old }
     ensures goes_on { GoesOn p.old p.new result }
     ensures no_read { IfErr result IsNoReadFault }
+    ensures sound { IfOk result (λ l. IfSome l IsSoundLine) }
     ensures answer { (ctx : Context) (inner : Inner) (table : Table) → most_toks ctx ≡ p.old.most → ctx.unit.standard ≡ standard → GivesLine ctx inner (source_in file.now) result (state_in table p.new) p.new.text (put_after p.old.text (processed ctx inner (source_in file.now) item.now.kind item.now.at item.now.toks.now (state_in table p.old))) }
 {
     match item.kind {
@@ -94,11 +104,11 @@ fn processed(
         }
         ItemKind::Include => {
             let header = p.header_named(file, item.at, behind_word(item.toks))?;
-            Ok(Some(IncludeLine {
+            Ok(Some(FileLine::Include(IncludeLine {
                 at: item.at,
                 next: false,
                 header,
-            }))
+            })))
         }
         ItemKind::Error => Err(file.fault(p.alloc, item.at, Cause::ErrorDirective)),
         ItemKind::Bad { .. } => Err(file.fault(p.alloc, item.at, Cause::BadDirective)),
@@ -119,12 +129,13 @@ fn stay(
     k: u32,
     item: &ItemToks,
     sections: &Sections,
-) -> Result<Option<IncludeLine>, PreFault>
+) -> Result<Option<FileLine>, PreFault>
     requires sound { IsTrue (list_all (λ t. is_traced t && is_low t) item.now.toks.now) }
     requires defines { item.now.kind ≡ Define → (line_kind item.now.toks.now ≡ Define) × ((m : Macro) → defined_by item.now.toks.now ≡ Some m → IsTrue (list_all is_traced m.body)) }
     requires able { IsAble p.old }
     ensures goes_on { GoesOn p.old p.new result }
     ensures no_read { IfErr result IsNoReadFault }
+    ensures sound { IfOk result (λ l. IfSome l IsSoundLine) }
     ensures answer { (ctx : Context) (inner : Inner) (table : Table) → most_toks ctx ≡ p.old.most → ctx.unit.standard ≡ standard → GivesItem ctx inner (source_in file.now) result sections.now (state_in table p.new) p.new.text (stepped_after p.old.text (turned ctx inner (source_in file.now) k (item_in item.now) sections.now (state_in table p.old) Stays)) }
 {
     if !sections.are_processed() {
@@ -160,8 +171,8 @@ fn foreign_line(
     Ok(())
 }
 
-/// Item number `k` of a file in a unit of this standard. Of an include line in a processed group the header is told, and the rest is
-/// left to the caller.
+/// Item number `k` of a file in a unit of this standard. Of an include line in a processed group the header is told, and of a
+/// condition of GNU C its pieces; the rest is left to the caller.
 pub(crate) fn item_step(
     p: &mut Progress,
     standard: Standard,
@@ -169,12 +180,13 @@ pub(crate) fn item_step(
     k: u32,
     item: &ItemToks,
     sections: &mut Sections,
-) -> Result<Option<IncludeLine>, PreFault>
+) -> Result<Option<FileLine>, PreFault>
     requires sound { IsTrue (list_all (λ t. is_traced t && is_low t) item.now.toks.now) }
     requires defines { item.now.kind ≡ Define → (line_kind item.now.toks.now ≡ Define) × ((m : Macro) → defined_by item.now.toks.now ≡ Some m → IsTrue (list_all is_traced m.body)) }
     requires able { IsAble p.old }
     ensures goes_on { GoesOn p.old p.new result }
     ensures no_read { IfErr result IsNoReadFault }
+    ensures sound { IfOk result (λ l. IfSome l IsSoundLine) }
     ensures answer { (ctx : Context) (inner : Inner) (table : Table) → most_toks ctx ≡ p.old.most → ctx.unit.standard ≡ standard → GivesItem ctx inner (source_in file.now) result sections.new (state_in table p.new) p.new.text (stepped_after p.old.text (item_step ctx inner (source_in file.now) k (item_in item.now) sections.old (state_in table p.old))) }
 {
     if is_foreign(standard, item.kind) {
@@ -192,23 +204,18 @@ fn step_of(
     k: u32,
     item: &ItemToks,
     sections: &mut Sections,
-) -> Result<Option<IncludeLine>, PreFault>
+) -> Result<Option<FileLine>, PreFault>
     requires sound { IsTrue (list_all (λ t. is_traced t && is_low t) item.now.toks.now) }
     requires defines { item.now.kind ≡ Define → (line_kind item.now.toks.now ≡ Define) × ((m : Macro) → defined_by item.now.toks.now ≡ Some m → IsTrue (list_all is_traced m.body)) }
     requires able { IsAble p.old }
     ensures goes_on { GoesOn p.old p.new result }
     ensures no_read { IfErr result IsNoReadFault }
+    ensures sound { IfOk result (λ l. IfSome l IsSoundLine) }
     ensures answer { (ctx : Context) (inner : Inner) (table : Table) → most_toks ctx ≡ p.old.most → ctx.unit.standard ≡ standard → GivesItem ctx inner (source_in file.now) result sections.new (state_in table p.new) p.new.text (stepped_after p.old.text (turned ctx inner (source_in file.now) k (item_in item.now) sections.old (state_in table p.old) (turn_of item.now.kind))) }
 {
     match section_line(item.kind) {
-        SectionLine::Opening => {
-            open_section(p, file, k, item, sections)?;
-            Ok(None)
-        }
-        SectionLine::Next => {
-            elif_line(p, file, k, item, sections)?;
-            Ok(None)
-        }
+        SectionLine::Opening => open_section(p, standard, file, k, item, sections),
+        SectionLine::Next => elif_line(p, standard, file, k, item, sections),
         SectionLine::Last => {
             else_line(p, file, k, item, sections)?;
             Ok(None)

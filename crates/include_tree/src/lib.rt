@@ -15,6 +15,7 @@
 //! `specs/Unit.antt` and `specs/Laws.antt` here; of the program `unit_walk.rt` and `walking.rt`.
 #![tactic(auto)]
 
+mod asking;
 mod including;
 mod item_steps;
 mod item_toks;

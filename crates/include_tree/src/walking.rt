@@ -15,10 +15,11 @@ ghost use Rattle.unit_steps.specs.Keeping.{put_after};
 ghost use Rattle.unit_steps.specs.Moments.{state_in, IsAble, GoesOn, IsReady};
 ghost use Rattle.source_files.specs.Sources.{source_kept, source_at, unit_most};
 ghost use Rattle.include_tree.specs.GivenFiles.{unit_context};
-ghost use Rattle.include_tree.specs.Walking.{stepped_after, inner_in, GivesItem};
+ghost use Rattle.include_tree.specs.Walking.{stepped_after, inner_in, given_line, GivesItem, IsSoundLine};
 
+use crate::asking::ask_section;
 use crate::including::{behind_found, open_header};
-use crate::item_steps::{IncludeLine, item_step};
+use crate::item_steps::{FileLine, item_step};
 use crate::item_toks::{item_at, source_of};
 use crate::sections::Sections;
 use cs_base::{Cause, Files, Memory, Pos, Standard, Unit};
@@ -27,7 +28,7 @@ use std::alloc::Global;
 use unit_steps::Progress;
 
 // The kept file with this number.
-fn kept_file(cache: &Cache, number: u32) -> &KeptFile
+pub(crate) fn kept_file(cache: &Cache, number: u32) -> &KeptFile
     requires { IsSome (source_at cache.now.table number) }
     ensures { source_kept result.now ≡ source_at cache.now.table number }
 {
@@ -78,11 +79,12 @@ fn next_item(
     number: u32,
     k: u32,
     sections: &mut Sections,
-) -> Result<Option<IncludeLine>, PreFault>
+) -> Result<Option<FileLine>, PreFault>
     requires kept { IsSome (source_at cache.now.table number) }
     requires able { IsAble p.old }
     ensures goes_on { GoesOn p.old p.new result }
     ensures no_read { IfErr result IsNoReadFault }
+    ensures sound { IfOk result (λ l. IfSome l IsSoundLine) }
     ensures answer { (ctx : Context) (inner : Inner) → most_toks ctx ≡ p.old.most → ctx.unit.standard ≡ standard → IfSome (source_at cache.now.table number) (λ file. IfSome (slice_get (items_in file) k) (λ i. GivesItem ctx inner file result sections.new (state_in cache.now.table p.new) p.new.text (stepped_after p.old.text (item_step ctx inner file k i sections.old (state_in cache.now.table p.old))))) }
 {
     let file = kept_file(cache, number);
@@ -146,7 +148,37 @@ fn walk_item<F: Files>(
     ensures faults { ReadsOnly (F.told files.old) (F.told files.new) (reads_of result) }
 {
     match next_item(cache, p, unit.standard(), number, k, sections) {
-        Ok(Some(line)) => include_file(
+        Ok(Some(line)) => walk_line(alloc, cache, files, p, unit, number, room, &line, sections),
+        Ok(None) => Ok(()),
+        Err(fault) => Err(fault),
+    }
+}
+
+#[cycle(walk)]
+// A line of it for which files are asked.
+fn walk_line<F: Files>(
+    alloc: Global,
+    cache: &mut Cache,
+    files: &mut F,
+    p: &mut Progress,
+    unit: &Unit,
+    number: u32,
+    room: u32,
+    line: &FileLine,
+    sections: &mut Sections,
+) -> Result<(), PreFault>
+    requires kept { IsSome (source_at cache.old.table number) }
+    requires ready { IsReady p.old (unit_most cache.old.toks) }
+    requires sound { IsSoundLine line.now }
+    ensures answer { (source : Source) → AreFound source cache.new.table → IfSome (source_at cache.old.table number) (λ file.
+        Gives (λ _. (sections.new, state_in cache.new.table p.new, p.new.text)) fault_of result
+        (given_line (unit_context source unit.now cache.old.toks) (inner_in (unit_context source unit.now cache.old.toks) room) file line.now sections.old (state_in cache.old.table p.old) p.old.text)) }
+    ensures goes_on { GoesOn p.old p.new result }
+    ensures reads { ReadsOn (F.told files.old).held cache.old cache.new }
+    ensures faults { ReadsOnly (F.told files.old) (F.told files.new) (reads_of result) }
+{
+    match line {
+        FileLine::Include(line) => include_file(
             alloc,
             cache,
             files,
@@ -158,8 +190,9 @@ fn walk_item<F: Files>(
             line.next,
             &line.header,
         ),
-        Ok(None) => Ok(()),
-        Err(fault) => Err(fault),
+        FileLine::Condition(line) => {
+            ask_section(alloc, cache, files, p, unit, number, line, sections)
+        }
     }
 }
 

@@ -1,11 +1,10 @@
 -- What an analysis that goes on with its files asks, and what it gives.
-use Rattle.std.proofs.Common.{◌≡◌, ℕ, ◌<◌, List, [], ◌∷◌, true, length, map, None, Some, slice_get, sym, ap, subst, ◌∙◌, arith}
+use Rattle.std.proofs.Common.{◌≡◌, ℕ, ◌<◌, List, true, length, map, None, Some, slice_get, sym, ap, subst, ◌∙◌, arith}
 use Rattle.std.specs.Prelude.{IfOk, Result, Ok, Err}
 use Rattle.std.proofs.lemmas.Option.{slice_get_within, same_Some}
 use Rattle.cs_base.specs.declared.positions.Part.{Part}
 use Rattle.eclass_map.specs.ClassTable.{Table, HasParts, class_in, members_of}
 use Rattle.eclass_map.specs.Resized.{Resizes}
-use Rattle.analysis.specs.Below.lexer.Spelling.{is_identifier_text}
 use Rattle.renamed.specs.Renamed.{renaming_of}
 use Rattle.analysis.specs.Changed.{Renaming, renamed_analysis, renamed_unit_analysis}
 use Rattle.include_tree.specs.Below.source_files.Files.{Table as Files}
@@ -33,10 +32,6 @@ use Rattle.offences.proofs.MemberListLemmas.{one_list}
 pub if_ok : {X E : Type 0} (r : Result X E) (P Q : X → Type 0) → ((x : X) → P x → Q x) → IfOk r P → IfOk r Q
 if_ok (Ok x) P Q f h = f x h
 if_ok (Err e) P Q f h = tt
-
-pub name_some : (name : List ℕ) → is_identifier_text name ≡ true → 0 < length name
-name_some [] e = absurd (cc)
-name_some (c ∷ cs) e = omega arith
 
 -- what parts of an analysis are renamed has the classes that the renamed analysis has
 pub parts_own : (m : Moves) (a : Analysed) (ws : WorkspaceValue) (us renamed : List UnitAnalysis) (files edited : Files) (old new : Table) (class len : ℕ)

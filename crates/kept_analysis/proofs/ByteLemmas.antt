@@ -1,28 +1,18 @@
 -- The bytes of a file with what stands for each character, byte by byte.
-use Rattle.std.proofs.Common.{ℕ, zero, suc, ◌+◌, ◌≡◌, ◌<◌, ◌≤◌, true, false, List, [], ◌∷◌, ◌++◌, length, drop, get_or, Option, Some, None, refl, sym, ap, ◌∙◌, arith, append_assoc, append-nil}
+use Rattle.std.proofs.Common.{ℕ, ◌+◌, ◌≡◌, ◌<◌, ◌≤◌, true, false, List, [], ◌∷◌, ◌++◌, length, drop, get_or, Option, Some, None, refl, sym, ap, ◌∙◌, arith, append_assoc, append-nil}
 use Rattle.std.specs.Prelude.{◌==◌, slice_get}
 use Rattle.std.specs.Option.{option_map, option_map_or}
 use Rattle.std.proofs.lemmas.List.{drop_more, drop_all}
-use Rattle.std.proofs.lemmas.Option.{slice_get_within, get_or_from_slice_get}
+use Rattle.cs_base.proofs.ListLemmas.{drop-some as drop_at}
 use Rattle.analysis.specs.Below.lexer.Logical.{Character, logical_of}
 use Rattle.analysis.specs.Below.lexer.Lines.{byte_offset_of}
 use Rattle.analysis.specs.Below.lexer.Respelling.{Put, edited}
 use Rattle.part_respell.specs.Walk.{edited_at}
-use Rattle.part_respell.proofs.WalkLemmas.{edited-at}
+use Rattle.part_respell.proofs.WalkLemmas.{edited-at, edited_at-byte}
 use Rattle.analysis.specs.Below.lexer.Places.{pos}
 use Rattle.offences.specs.declared.moves.Moves.{Moves}
 use Rattle.kept_analysis.specs.Edits.{stands_at, IsMade}
 use Rattle.offences.specs.Moves.{editing_by, put_by}
-
-drop_at : {X : Type 0} (xs : List X) (k : ℕ) (x : X) → slice_get xs k ≡ Some x → drop k xs ≡ x ∷ drop (k + 1) xs
-drop_at {X = X} xs k x at =
-    drop_more xs k x (slice_get_within xs k x at) ∙ ap (λ (y : X). y ∷ drop (k + 1) xs) (get_or_from_slice_get xs k x x at)
-
-drop_none : {X : Type 0} (xs : List X) (k : ℕ) → slice_get xs k ≡ None → drop k xs ≡ []
-drop_none [] zero at = refl
-drop_none [] (suc k) at = refl
-drop_none (x ∷ xs) zero at = let no : Some x ≡ None = at in absurd cc
-drop_none (x ∷ xs) (suc k) at = drop_none xs k at
 
 -- the character that stands at an offset
 character_is : (offset : ℕ) (r : Option Character)
@@ -30,14 +20,6 @@ character_is : (offset : ℕ) (r : Option Character)
     → (c : Character) × (r ≡ Some c) × ((c.offset == offset) ≡ true)
 character_is offset None h = absurd cc
 character_is offset (Some c) h = (c, refl, h)
-
--- a byte at which none does
-edited_at-byte : (put : Put) (at offset b : ℕ) (bs : List ℕ) (all : List Character) (r : Option Character) → slice_get all at ≡ r
-    → option_map_or (λ byte. byte == offset) (option_map (λ (c : Character). c.offset) r) false ≡ false
-    → edited_at put at (drop at all) offset (b ∷ bs) ≡ b ∷ edited_at put at (drop at all) (offset + 1) bs
-unfolding edited_at
-edited_at-byte put at offset b bs all None is h = rw (drop_none all at is) refl
-edited_at-byte put at offset b bs all (Some c) is h = rw (drop_at all at c is, h) refl
 
 -- the edit by the tables
 pub editing_is : (m : Moves) (number : ℕ) (bytes : List ℕ) → edited (λ at c. put_by m (pos number at) c) bytes ≡ editing_by m number bytes

@@ -1,11 +1,11 @@
 -- The logical text of an edited file.
 use Rattle.std.proofs.Common.{◌≡◌, ℕ, zero, suc, ◌+◌, ◌-◌, Bool, true, false, ◌&&◌, ◌==◌, if◌then◌else◌, List, [], ◌∷◌, ◌++◌, drop, map, inl, inr, refl, sym, ap, ◌∙◌, arith, add-zero}
-use Rattle.std.proofs.lemmas.List.{drop-drop}
 use Rattle.std.specs.List.{list_all}
 use Rattle.std.specs.Option.{option_map}
 use Rattle.std.proofs.lemmas.Bool.{cases_Bool, and_parts, both_ways, eqb-true, eqb-false, ne_eqb}
 use Rattle.std.proofs.lemmas.Bool.Decides.{nat_tests}
 use Rattle.cs_base.specs.Token.{Token}
+use Rattle.cs_base.proofs.ListLemmas.{drop-next}
 use Rattle.lexer.specs.declared.pieces.LineFront.TheVariants.{Nothing}
 use Rattle.lexer.specs.Characters.{line_feed, carriage_return, backslash, is_word, begins, line_after}
 use Rattle.lexer.specs.Spelling.{is_identifier_text}
@@ -26,18 +26,13 @@ lined_from zero line (c ∷ cs) =
     if gone_length c cs == 0 then on_line c line ∷ lined_from 0 (line_after c line) cs
     else lined_from (gone_length c cs - 1) (line_after c line) cs
 
-line-next : (bytes : List ℕ) (o c : ℕ) (cs : List ℕ) → drop o bytes ≡ c ∷ cs → line_at bytes (o + 1) ≡ line_after c (line_at bytes o)
+pub line-next : (bytes : List ℕ) (o c : ℕ) (cs : List ℕ) → drop o bytes ≡ c ∷ cs → line_at bytes (o + 1) ≡ line_after c (line_at bytes o)
 line-next bytes o c cs here =
     let step = line-step bytes (c ∷ cs) o 1 (o + 1) (line_at bytes o) here refl refl in
     elim (cases_Bool (c == line_feed)) [
       | inl ends ↦ rw ends (sym (rw ends at step))
       | inr on ↦ rw on (sym (rw (on, add-zero) at step))
     ]
-
-drop-next : (bytes : List ℕ) (o c : ℕ) (cs : List ℕ) → drop o bytes ≡ c ∷ cs → drop (o + 1) bytes ≡ cs
-drop-next bytes o c cs here =
-    let both = drop-drop 1 o bytes in
-    sym both ∙ ap (λ (zs : List ℕ). drop 1 zs) here
 
 lined-from : (bytes : List ℕ) (skip o : ℕ) (bs : List ℕ) → drop o bytes ≡ bs
     → lined bytes (logical_from skip o bs) ≡ lined_from skip (line_at bytes o) bs
@@ -63,7 +58,7 @@ gone-other c cs no_backslash no_return = rw (no_backslash, no_return) refl
 word-return : (c : ℕ) → is_word c ≡ true → (c == carriage_return) ≡ false
 word-return c h = grind (arith, nat_tests)
 
-gone-word : (c : ℕ) (cs : List ℕ) → is_word c ≡ true → gone_length c cs ≡ 0
+pub gone-word : (c : ℕ) (cs : List ℕ) → is_word c ≡ true → gone_length c cs ≡ 0
 gone-word c cs word = gone-other c cs (word-backslash c word) (word-return c word)
 
 -- a character that is no word character stands for itself

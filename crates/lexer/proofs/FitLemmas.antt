@@ -94,7 +94,7 @@ word-backslash c h = grind (arith, nat_tests)
 more-open : (x : Option ℕ) → x ≡ None → one_more x ≡ None
 more-open x none = rw none refl
 
-open-more : (x : Option ℕ) → one_more x ≡ None → x ≡ None
+pub open-more : (x : Option ℕ) → one_more x ≡ None → x ≡ None
 open-more None none = refl
 open-more (Some n) none = absurd cc
 

@@ -7,6 +7,7 @@ use Rattle.std.proofs.Math.Seq.{take-append_seam}
 use Rattle.std.proofs.lemmas.List.{take-append-drop, length-take-le}
 use Rattle.std.proofs.lemmas.Bool.{cases_Bool, and_parts, and_from, or_cases, not-true}
 use Rattle.cs_base.proofs.FileMapLemmas.{bytes_eq-equal}
+use Rattle.cs_base.proofs.ListLemmas.{drop-front as drop_seam}
 use Rattle.cs_base.specs.declared.tokens.Kind.{Kind}
 use Rattle.cs_base.specs.declared.tokens.Kind.TheVariants.{Ident, Number, Char, Str, Punct, Other, Header}
 use Rattle.lexer.specs.declared.pieces.Piece.{Piece}
@@ -32,10 +33,6 @@ keeps_pieces-skip put (suc skip) front at [] = refl
 keeps_pieces-skip put (suc skip) front at (c ∷ cs) =
     let on : at + suc skip ≡ at + 1 + skip = omega arith in
     rw on (keeps_pieces-skip put skip front (at + 1) cs)
-
-drop_seam : (xs ys : List ℕ) → drop (length xs) (xs ++ ys) ≡ ys
-drop_seam [] ys = refl
-drop_seam (x ∷ xs) ys = drop_seam xs ys
 
 -- the first piece of a text has the character c and the characters xs
 abbrev pub IsCut : LineFront → ℕ → List ℕ → List ℕ → Type 0
@@ -102,7 +99,7 @@ pub record IsWord (c : ℕ) (cs : List ℕ) (n : ℕ) : Type 0 where
   pub words : prefix_len is_word cs ≡ n
   pub narrow : wide_front c cs ≡ None
 
-quoted_kind-other : (q : ℕ) → quoted_kind q ≡ Ident → ⊥
+pub quoted_kind-other : (q : ℕ) → quoted_kind q ≡ Ident → ⊥
 quoted_kind-other q is =
     elim (cases_Bool (q == 39)) [
       | inl single ↦ let contra = rw single at is in cc

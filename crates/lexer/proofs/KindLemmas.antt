@@ -36,7 +36,7 @@ quote-wide c h = grind (arith, nat_tests)
 nondigit-single : (c : ℕ) → is_nondigit c ≡ true → (c == single_quote) ≡ false
 nondigit-single c h = grind (arith, nat_tests)
 
-nondigit-double : (c : ℕ) → is_nondigit c ≡ true → (c == double_quote) ≡ false
+pub nondigit-double : (c : ℕ) → is_nondigit c ≡ true → (c == double_quote) ≡ false
 nondigit-double c h = grind (arith, nat_tests)
 
 other-wide : (c : ℕ) → is_nondigit c ≡ false → (c == capital_l) ≡ false

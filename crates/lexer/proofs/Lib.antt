@@ -22,3 +22,4 @@ pub mod LoneLemmas
 pub mod ByteLemmas
 pub mod CharacterLemmas
 pub mod InverseLemmas
+pub mod NameLemmas

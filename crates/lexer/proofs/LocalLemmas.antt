@@ -7,10 +7,11 @@ use Rattle.std.proofs.lemmas.Bool.{cases_Bool, and_parts, leb-true, leb-false}
 use Rattle.std.proofs.lemmas.Bool.Decides.{nat_tests}
 use Rattle.cs_base.specs.declared.tokens.Kind.{Kind}
 use Rattle.cs_base.specs.declared.tokens.Kind.TheVariants.{Ident, Other}
-use Rattle.lexer.specs.Characters.{line_feed, single_quote, double_quote, slash, star, less_than, capital_l, backslash, is_nondigit, is_digit, is_word, is_quote, begins}
+use Rattle.lexer.specs.Characters.{line_feed, single_quote, slash, star, less_than, capital_l, backslash, is_nondigit, is_digit, is_word, is_quote, begins}
 use Rattle.lexer.specs.Spelling.{may_follow, begins_number, begins_with_digit, header_close, punctuators_of_one, punctuators_of_two, punctuators_of_three, punctuators_of_four}
 use Rattle.lexer.specs.Tokens.{comment_end, one_more}
 use Rattle.lexer.specs.Front.{count_following, closing, quoted, quoted_kind, quoted_front, wide_front, header_closing, header_length, begins_with, begins_with_one, punctuator_length, plain_front, or_header, front_of}
+use Rattle.lexer.proofs.KindLemmas.{nondigit-double}
 
 -- the first character passes the test
 abbrev pub first_is : (ℕ → Bool) → List ℕ → Bool
@@ -82,7 +83,7 @@ count_following-local last (x ∷ xs) ys zs alike within =
 
 -- What closes in a text closes there whatever follows it.
 
-closing-some : (quote : ℕ) (escaped : Bool) (cs : List ℕ) (j : ℕ) → closing quote escaped cs ≡ Some j → 1 ≤ j
+pub closing-some : (quote : ℕ) (escaped : Bool) (cs : List ℕ) (j : ℕ) → closing quote escaped cs ≡ Some j → 1 ≤ j
 closing-some quote escaped [] j is = absurd cc
 closing-some quote true (c ∷ cs) j is =
     elim (cases_Bool (c == line_feed)) [
@@ -98,12 +99,12 @@ closing-some quote false (c ∷ cs) j is =
       ]
     ]
 
-more-again : (x z : Option ℕ) (j : ℕ) → one_more x ≡ Some j → ((i : ℕ) → x ≡ Some i → j ≡ i + 1 → z ≡ Some i) → one_more z ≡ Some j
+pub more-again : (x z : Option ℕ) (j : ℕ) → one_more x ≡ Some j → ((i : ℕ) → x ≡ Some i → j ≡ i + 1 → z ≡ Some i) → one_more z ≡ Some j
 more-again x z j is again =
     let i = one_more-some x j is in
     rw (again i.0 i.1 i.2) (ap (λ n. Some n) (sym i.2))
 
-closing-local : (quote : ℕ) (escaped : Bool) (xs ys zs : List ℕ) (j : ℕ) → closing quote escaped (xs ++ ys) ≡ Some j → j ≤ length xs
+pub closing-local : (quote : ℕ) (escaped : Bool) (xs ys zs : List ℕ) (j : ℕ) → closing quote escaped (xs ++ ys) ≡ Some j → j ≤ length xs
     → closing quote escaped (xs ++ zs) ≡ Some j
 closing-local quote escaped [] ys zs j is within = let some = closing-some quote escaped ys j is in absurd (omega arith)
 closing-local quote true (x ∷ xs) ys zs j is within =
@@ -130,7 +131,7 @@ quoted-some quote cs j is =
       | inr some ↦ (some, rw some at is)
     ]
 
-quoted-local : (quote : ℕ) (xs ys zs : List ℕ) (j : ℕ) → quoted quote (xs ++ ys) ≡ Some j → j ≤ length xs → quoted quote (xs ++ zs) ≡ Some j
+pub quoted-local : (quote : ℕ) (xs ys zs : List ℕ) (j : ℕ) → quoted quote (xs ++ ys) ≡ Some j → j ≤ length xs → quoted quote (xs ++ zs) ≡ Some j
 quoted-local quote [] ys zs j is within =
     let parts = quoted-some quote ys j is in
     let some = closing-some quote false ys j parts.1 in
@@ -189,7 +190,7 @@ header_length-local c (x ∷ xs) ys zs j is within =
     let same = header_closing-local (header_close c) (x ∷ xs) ys zs j parts.2 within in
     rw (closable, some) (rw some at same)
 
-comment_end-some : (cs : List ℕ) (j : ℕ) → comment_end cs ≡ Some j → 2 ≤ j
+pub comment_end-some : (cs : List ℕ) (j : ℕ) → comment_end cs ≡ Some j → 2 ≤ j
 comment_end-some [] j is = absurd cc
 comment_end-some (c ∷ cs) j is =
     elim (cases_Bool (c == star && begins slash cs)) [
@@ -367,9 +368,6 @@ front_of-local false c xs ys zs like within = plain_front-local c xs ys zs like 
 
 nondigit-less : (c : ℕ) → is_nondigit c ≡ true → (c == less_than) ≡ false
 nondigit-less c h = grind (arith, nat_tests)
-
-nondigit-double : (c : ℕ) → is_nondigit c ≡ true → (c == double_quote) ≡ false
-nondigit-double c h = grind (arith, nat_tests)
 
 word-quote : (c : ℕ) → is_word c ≡ true → is_quote c ≡ false
 word-quote c h = grind (arith, nat_tests)

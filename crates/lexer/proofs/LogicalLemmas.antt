@@ -4,11 +4,7 @@ use Rattle.std.proofs.lemmas.Bool.{cases_Bool, ne_eqb}
 use Rattle.std.proofs.lemmas.List.{length-map, length-drop, drop-drop, drop-map, take_all}
 use Rattle.lexer.specs.Logical.{Character, character, gone_length, logical_from, spelling}
 use Rattle.lexer.specs.Walk.{spelled, Passes, IsFirst}
-
-pub logical_from-nil : (skip at : ℕ) → logical_from skip at [] ≡ []
-unfolding logical_from
-logical_from-nil zero at = refl
-logical_from-nil (suc skip) at = refl
+use Rattle.lexer.proofs.GoneLemmas.{logical_from-empty as logical_from-nil}
 
 -- bytes that go are passed over
 pub logical_from-skip : (skip at : ℕ) (bs : List ℕ)
@@ -59,7 +55,7 @@ pub length-spelled : (at : ℕ) (bs : List ℕ) → length (logical_from 0 at bs
 length-spelled at bs =
     sym (length-map (logical_from 0 at bs) (λ (c : Character). c.byte)) ∙ ap length (spelled-at at bs)
 
-logical_from-within : (skip at : ℕ) (bs : List ℕ) → length (logical_from skip at bs) ≤ length bs
+pub logical_from-within : (skip at : ℕ) (bs : List ℕ) → length (logical_from skip at bs) ≤ length bs
 unfolding logical_from
 logical_from-within zero at [] = omega arith
 logical_from-within (suc skip) at [] = omega arith

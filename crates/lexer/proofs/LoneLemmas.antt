@@ -1,19 +1,15 @@
 -- Quotes that stay open.
-use Rattle.std.proofs.Common.{◌≡◌, ℕ, zero, suc, ◌+◌, ◌<◌, Bool, true, false, ◌==◌, List, [], ◌∷◌, drop, Option, Some, None, inl, inr, refl, sym, subst, ◌∙◌, arith}
+use Rattle.std.proofs.Common.{◌≡◌, ℕ, zero, suc, ◌+◌, ◌<◌, Bool, true, false, ◌==◌, List, [], ◌∷◌, drop, None, inl, inr, sym, subst, ◌∙◌, arith}
 use Rattle.std.specs.List.{prefix_len}
 use Rattle.std.proofs.lemmas.Bool.{cases_Bool, eqb-true, ltb-true, eq-eqb, both_ways}
 use Rattle.std.proofs.lemmas.List.{drop-drop}
 use Rattle.lexer.specs.declared.lone.Lone.{Lone}
 use Rattle.lexer.specs.Characters.{line_feed, single_quote, double_quote, backslash, is_quote, is_on_line}
-use Rattle.lexer.specs.Tokens.{one_more}
 use Rattle.lexer.specs.Front.{closing}
 use Rattle.lexer.specs.Walk.{spelled, Passes, IsFirst}
 use Rattle.lexer.proofs.LogicalLemmas.{spelled-passes, spelled-first}
+use Rattle.lexer.proofs.FitLemmas.{open-more}
 use Rattle.lexer.specs.Lone.{StaysOpen, IsLone, knows_of, lone_behind, lone_with}
-
-open-more : (x : Option ℕ) → one_more x ≡ None → x ≡ None
-open-more None none = refl
-open-more (Some n) none = absurd cc
 
 later-on : (q : ℕ) (escaped : Bool) (c : ℕ) (cs rest : List ℕ) (j : ℕ) → closing q escaped cs ≡ None → j < 1 + prefix_len is_on_line cs
     → drop j (c ∷ cs) ≡ q ∷ rest → (c ≡ q → closing q false cs ≡ None)

@@ -1,14 +1,22 @@
 -- The tokens of a file stand one behind the other.
-use Rattle.std.proofs.Common.{◌≡◌, ℕ, zero, suc, ◌+◌, ◌≤◌, Bool, true, List, [], ◌∷◌, ◌++◌, length, refl, ap, ◌∙◌, arith, length-append}
+use Rattle.std.proofs.Common.{◌≡◌, ℕ, zero, suc, ◌+◌, ◌≤◌, Bool, true, List, [], ◌∷◌, ◌++◌, length, refl, ap, ◌∙◌, arith, length-append, None, Ok, Option, Some, false, inl, inr, slice_get, subst, ◌<◌, ◌==◌}
 use Rattle.cs_base.specs.Token.{Token}
+use Rattle.cs_base.specs.Limits.{most_bytes}
 use Rattle.std.proofs.Math.Seq.{take-append_seam}
+use Rattle.std.proofs.lemmas.Bool.Decides.{nat_tests}
+use Rattle.std.proofs.lemmas.Bool.{cases_Bool}
+use Rattle.std.proofs.lemmas.Option.{none-some, same_Some}
+use Rattle.std.specs.Option.{option_map, option_map_or}
+use Rattle.std.specs.Prelude.{nat_lt}
 use Rattle.lexer.specs.declared.pieces.Piece.{Piece}
 use Rattle.lexer.specs.declared.pieces.Piece.TheVariants.{Blank, LineEnd, OpenComment, Token as Spelled}
 use Rattle.lexer.specs.declared.pieces.LineFront.{LineFront}
 use Rattle.lexer.specs.declared.pieces.LineFront.TheVariants.{Nothing}
-use Rattle.lexer.specs.Logical.{logical_of}
+use Rattle.lexer.specs.Logical.{logical_of, Character}
 use Rattle.lexer.specs.Tokens.{Found, FoundToken, FoundOpen, piece_of, piece_length, leaves_gap, expects_header, line_front_after, found_in, found_of, tokens_in, tokens_of}
 use Rattle.lexer.specs.Order.{InOrder}
+use Rattle.lexer.specs.Characters.{is_white, line_feed}
+use Rattle.lexer.specs.FileText.{TextValue, file_text}
 use Rattle.lexer.proofs.EditedTokens.{Lined, bytes_in, lined, length-lined, length-bytes_in, found_lined, found_from-lined, found_lined-cut, cut_lined}
 
 pub InOrder-weaken : (a b to : ℕ) (ts : List Token) → a ≤ b → InOrder b to ts → InOrder a to ts
@@ -66,3 +74,41 @@ tokens_of-in_order file bytes =
     let end : 0 + length cs ≡ length (logical_of bytes) = omega (arith, length-lined bytes (logical_of bytes)) in
     rw (found_from-lined file bytes 0 true Nothing 0 (logical_of bytes), ← end)
     (found-in_order (length cs) file true Nothing 0 cs (omega arith))
+
+pub dark_feed : (c : ℕ) → is_white c ≡ false → (c == line_feed) ≡ false
+dark_feed c h = grind (arith, nat_tests)
+
+pub nothing : (k : ℕ) (c : Character) → slice_get [] k ≡ Some c → ⊥
+nothing zero c e = cc
+nothing (suc k) c e = cc
+
+pub offset_none : (r : Option Character) → option_map (λ (c : Character). c.offset) r ≡ None
+    → option_map_or (λ (c : Character). c.byte == line_feed) r false ≡ false
+offset_none None is = refl
+offset_none (Some c) is = absurd cc
+
+pub few_bytes : (file : ℕ) (bytes : List ℕ) (text : TextValue) → file_text file bytes ≡ Ok text → length bytes ≤ most_bytes
+unfolding file_text
+few_bytes file bytes text is = elim (cases_Bool (nat_lt most_bytes (length bytes))) [
+  | inl large ↦ let wrong = rw large at is in absurd (cc)
+  | inr small ↦ grind (arith, nat_tests)
+]
+
+-- the number of its first character orders the tokens of a file
+pub later_all : (from to : ℕ) (ts : List Token) → InOrder from to ts → (i : ℕ) (x : Token) → slice_get ts i ≡ Some x → from ≤ x.at.at
+later_all from to [] h i x is = absurd (none-some x is)
+later_all from to (t ∷ ts) h zero x is = subst (λ (y : Token). from ≤ y.at.at) (same_Some t x is) h.0
+later_all from to (t ∷ ts) h (suc i) x is =
+    let rest = later_all (t.at.at + length t.text) to ts h.3 i x is in
+    let first = h.0 in
+    omega (arith, rest, first)
+
+pub before_of : (from to : ℕ) (ts : List Token) → InOrder from to ts → (i j : ℕ) (t u : Token) → i < j → slice_get ts i ≡ Some t → slice_get ts j ≡ Some u → t.at.at < u.at.at
+before_of from to [] h i j t u lt e g = absurd (cc)
+before_of from to (y ∷ ts) h i zero t u lt e g = absurd (omega (arith, lt))
+before_of from to (y ∷ ts) h zero (suc j) t u lt e g =
+    let far = later_all (y.at.at + length y.text) to ts h.3 j u g in
+    let some = h.1 in
+    let same = ap (λ (x : Token). x.at.at) (same_Some y t e) in
+    omega (arith, far, some, same)
+before_of from to (y ∷ ts) h (suc i) (suc j) t u lt e g = before_of (y.at.at + length y.text) to ts h.3 i j t u (omega (arith, lt)) e g

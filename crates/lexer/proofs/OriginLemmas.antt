@@ -1,6 +1,7 @@
 -- The origins of the characters of a token.
-use Rattle.std.proofs.Common.{◌≡◌, ℕ, zero, suc, ◌+◌, true, List, [], ◌∷◌, length, map, Some, is_some, Option, refl, ap, arith, ◌∙◌}
+use Rattle.std.proofs.Common.{◌≡◌, ℕ, zero, suc, ◌+◌, true, List, [], ◌∷◌, length, map, Some, is_some, Option, refl, ap, arith, ◌∙◌, ◌<◌, ◌≤◌}
 use Rattle.std.specs.List.{list_all, range_with_len}
+use Rattle.std.specs.Prelude.{slice_get}
 use Rattle.cs_base.specs.declared.positions.Pos.{Pos}
 use Rattle.cs_base.specs.Spans.{origins_by, whole}
 use Rattle.cs_base.proofs.OriginLemmas.{next_to, origins_by-whole}
@@ -30,3 +31,13 @@ origins_by-file file at n =
 -- and each has one
 pub origins_by-traced : (file at n : ℕ) → list_all is_some (origins_by n (whole n (pos file at) ∷ [])) ≡ true
 origins_by-traced file at n = rw (origins_by-file file at n) (origins_from-traced file at n)
+
+pub first_origin : (file at n : ℕ) → 1 ≤ n → slice_get (origins_from file at n) 0 ≡ Some (Some (pos file at))
+first_origin file at zero some = absurd (omega arith)
+first_origin file at (suc n) some = refl
+
+-- an origin of a file
+pub origin_in : (file at n k : ℕ) → k < n → slice_get (origins_from file at n) k ≡ Some (Some (pos file (at + k)))
+origin_in file at zero k less = absurd (omega arith)
+origin_in file at (suc n) zero less = let same : at + 0 ≡ at = omega arith in rw same refl
+origin_in file at (suc n) (suc k) less = let same : at + suc k ≡ at + 1 + k = omega arith in rw same (origin_in file (at + 1) n k (omega arith))

@@ -15,9 +15,11 @@ use Rattle.lexer.specs.Lines.{byte_offset_of, line_column_of}
 use Rattle.lexer.specs.LineTable.{line_starts, place_in}
 use Rattle.lexer.specs.Tokens.{Found, FoundToken, FoundOpen, piece_of, piece_length, leaves_gap, line_front_after, expects_header, piece_at, found_in, found_from, found_of, tokens_in, firsts_in, open_in, tokens_of, firsts_of, open_comment_of}
 use Rattle.lexer.specs.Walk.{spelled, Passes, IsFirst}
-use Rattle.lexer.proofs.LogicalLemmas.{logical_from-nil, logical_from-stays, Passes-none, Passes-more, Passes-first, spelled-at, spelled-first, spelled-nil, spelled-passes, spelled-within, length-spelled}
+use Rattle.lexer.proofs.LogicalLemmas.{logical_from-stays, Passes-none, Passes-more, Passes-first, spelled-at, spelled-first, spelled-nil, spelled-passes, spelled-within, length-spelled}
 use Rattle.lexer.proofs.LineLemmas.{place_of_byte-table}
 use Rattle.lexer.proofs.PieceLemmas.{HasLength, piece_of-length}
+use Rattle.lexer.proofs.GoneLemmas.{logical_from-empty as logical_from-nil}
+use Rattle.lexer.proofs.OrderLemmas.{tokens_in-append}
 
 -- Lines.
 
@@ -39,11 +41,6 @@ line_at-bound bytes offset =
     omega (arith, length-take offset bytes)
 
 -- What is found.
-
-tokens_in-append : (xs ys : List Found) → tokens_in (xs ++ ys) ≡ tokens_in xs ++ tokens_in ys
-tokens_in-append [] ys = refl
-tokens_in-append (FoundToken t first ∷ xs) ys = ap (λ (ts : List Token). t ∷ ts) (tokens_in-append xs ys)
-tokens_in-append (FoundOpen at ∷ xs) ys = tokens_in-append xs ys
 
 firsts_in-append : (xs ys : List Found) → firsts_in (xs ++ ys) ≡ firsts_in xs ++ firsts_in ys
 firsts_in-append [] ys = refl

@@ -11,8 +11,8 @@ use Rattle.lexer.specs.Logical.{logical_from, logical_of}
 use Rattle.lexer.specs.Tokens.{Found, FoundOpen, piece_of, piece_length, leaves_gap, line_front_after, expects_header, found_in, found_from, found_of}
 use Rattle.lexer.specs.OneToken.{free_kind, only_token, one_token_of, held_after, held_kind}
 use Rattle.lexer.specs.Walk.{spelled, Passes, IsFirst}
-use Rattle.lexer.proofs.LogicalLemmas.{logical_from-nil}
 use Rattle.lexer.proofs.ScanLemmas.{IsClosed, closed-bounds, closed-length, found_left, found_left-piece, found_left-open, found_left-gone, found_from-nil}
+use Rattle.lexer.proofs.GoneLemmas.{logical_from-empty as logical_from-nil}
 
 -- the kind of what is held and of what is found behind it, if that is one token
 abbrev pub joined : Held → List Found → Option Kind

@@ -63,7 +63,7 @@ hunks_in-far : (old_before new_before : ℕ) (s : Stretch) (more : List Stretch)
 unfolding hunks_in
 hunks_in-far old_before new_before s more far = rw far refl
 
-hunks_in-end : (old_before new_before : ℕ) → hunks_in old_before new_before [] ≡ []
+pub hunks_in-end : (old_before new_before : ℕ) → hunks_in old_before new_before [] ≡ []
 unfolding hunks_in
 hunks_in-end old_before new_before = refl
 

@@ -1,5 +1,5 @@
 -- The lines of a text make the text.
-use Rattle.std.proofs.Common.{◌≡◌, ◌∙◌, ℕ, suc, ◌+◌, ◌-◌, ◌<◌, ◌≤◌, Bool, true, false, ◌==◌, List, [], ◌∷◌, ◌++◌, length, take, drop, inl, inr, refl, ap, sym, arith}
+use Rattle.std.proofs.Common.{◌≡◌, ◌∙◌, ℕ, suc, ◌+◌, ◌-◌, ◌<◌, ◌≤◌, true, false, ◌==◌, List, [], ◌∷◌, ◌++◌, length, take, drop, inl, inr, refl, ap, sym, arith}
 use Rattle.std.specs.List.{onto_first, prefix_len}
 use Rattle.std.proofs.lemmas.Bool.{cases_Bool, cases_lt}
 use Rattle.std.specs.Borrow.{Bor}
@@ -67,17 +67,6 @@ lines_of-first (b ∷ c ∷ text) p n before within past some =
           lines_of-first (c ∷ text) q (n - 1) refl (λ less. omega (arith, within (omega arith))) (λ all. omega (arith, past (omega arith)))
           (omega arith) in
           rw next (lines_of-other b (c ∷ text) other ∙ ap (λ (lines : List (List ℕ)). onto_first b lines) rest)
-    ]
-
-pub prefix_len-le : {X : Type 0} (test : X → Bool) (xs : List X) → prefix_len test xs ≤ length xs
-prefix_len-le test [] = omega arith
-prefix_len-le test (x ∷ xs) =
-    elim (cases_Bool (test x)) [
-      | inl holds ↦
-          let here : prefix_len test (x ∷ xs) ≡ suc (prefix_len test xs) = rw holds (omega arith) in
-          let below = prefix_len-le test xs in
-          omega arith
-      | inr fails ↦ let here : prefix_len test (x ∷ xs) ≡ 0 = rw fails refl in omega arith
     ]
 
 -- ---- lines taken one by one

@@ -8,6 +8,7 @@ use Rattle.std.specs.Str.{bytes_eq}
 use Rattle.std.proofs.lemmas.Bool.{cases_Bool, cases_lt}
 use Rattle.std.proofs.lemmas.Option.{slice_get_read}
 use Rattle.std.proofs.lemmas.List.{drop-map, drop_all, length-drop, length-map, length-take, take-map, take_all, take_rest}
+use Rattle.cs_base.proofs.ListLemmas.{at_drop as get-drop}
 use Rattle.line_diff.specs.Rows.{Row, goes, comes, row_of, rows_of, is_changed, is_near}
 use Rattle.line_diff.specs.Pairs.{texts_of, rows_in, is_changed_at}
 
@@ -55,11 +56,6 @@ take-past [] zero none = refl
 take-past [] (suc n) none = let one : suc n + 1 ≡ suc (n + 1) = omega arith in rw one refl
 take-past (y ∷ xs) zero none = absurd cc
 take-past (y ∷ xs) (suc n) none = let one : suc n + 1 ≡ suc (n + 1) = omega arith in rw one (ap (λ (l : List _). y ∷ l) (take-past xs n none))
-
-get-drop : {X : Type 0} (xs : List X) (from n : ℕ) → slice_get (drop from xs) n ≡ slice_get xs (from + n)
-get-drop xs zero n = let e : 0 + n ≡ n = omega arith in rw e refl
-get-drop [] (suc from) n = refl
-get-drop (x ∷ xs) (suc from) n = let e : suc from + n ≡ suc (from + n) = omega arith in rw e (get-drop xs from n)
 
 -- a range with one element more
 pub range-more : {X : Type 0} (xs : List X) (from j : ℕ) (x : X) → from ≤ j → slice_get xs j ≡ Some x

@@ -13,6 +13,7 @@ use Rattle.line_diff.specs.Pairs.{hunk_at, rows_in, texts_of}
 use Rattle.line_diff.proofs.EntryLemmas.{old_lines-entries, new_lines-entries}
 use Rattle.line_diff.proofs.PairLemmas.{length-range, length-texts, rows-range}
 use Rattle.line_diff.proofs.RowLemmas.{olds-rows, news-rows}
+use Rattle.line_diff.proofs.AppliedLemmas.{hunks_in-end as hunks-none}
 
 -- ---- the lines of a range of rows
 
@@ -98,10 +99,6 @@ text_from-step olds_there news_there k end near le cut =
 stretches-none : (near : ℕ → Bool) (k : ℕ) → stretches_of near k [] ≡ []
 unfolding stretches_of
 stretches-none near k = refl
-
-hunks-none : (m n : ℕ) → hunks_in m n [] ≡ []
-unfolding hunks_in
-hunks-none m n = refl
 
 -- behind the last row nothing is left
 pub text_from-end : (olds_there news_there : List (Bor (List ℕ))) (k : ℕ) → length (rows_in olds_there news_there) ≤ k → text_from olds_there news_there k ≡ []

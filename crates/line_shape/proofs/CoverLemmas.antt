@@ -78,7 +78,7 @@ Follow-items_of toks firsts =
     Follow-to 0 (0 + tokens_in_pieces pieces) (length toks) (items_from 0 pieces) (omega (arith, all)) (Follow-items_from 0 pieces)
 
 -- the place where such items end
-Follow-ends : (from to : ℕ) (items : List Item) → Follow from to items → from ≤ to
+pub Follow-ends : (from to : ℕ) (items : List Item) → Follow from to items → from ≤ to
 Follow-ends from to [] f = omega arith
 Follow-ends from to (i ∷ items) f =
     let after = f.1 in

@@ -1,5 +1,5 @@
 -- A directive line is no run.
-use Rattle.std.proofs.Common.{◌≡◌, ℕ, Bool, false, not, ◌||◌, List, [], ◌∷◌, Option, Some, None, refl, inl, inr, arith}
+use Rattle.std.proofs.Common.{◌≡◌, ℕ, Bool, false, not, ◌||◌, List, [], ◌∷◌, Option, Some, None, refl, inl, inr}
 use Rattle.std.specs.Str.{bytes_eq}
 use Rattle.std.proofs.lemmas.Bool.{cases_Bool, or_parts}
 use Rattle.cs_base.specs.Token.{Token}
@@ -21,7 +21,7 @@ abbrev has_run : List (List ℕ × ItemKind) → Bool
 has_run [] = false
 has_run (row ∷ rows) = is_run row.1 || has_run rows
 
-is_run_in-meaning_in : (rows : List (List ℕ × ItemKind)) (text : List ℕ) → has_run rows ≡ false → is_run_in (meaning_in rows text) ≡ false
+pub is_run_in-meaning_in : (rows : List (List ℕ × ItemKind)) (text : List ℕ) → has_run rows ≡ false → is_run_in (meaning_in rows text) ≡ false
 is_run_in-meaning_in [] text h = refl
 is_run_in-meaning_in (row ∷ rows) text h =
     elim (cases_Bool (bytes_eq text row.0)) [
@@ -29,7 +29,7 @@ is_run_in-meaning_in (row ∷ rows) text h =
       | inr other ↦ rw other (is_run_in-meaning_in rows text ((or_parts (is_run row.1) (has_run rows) h).1))
     ]
 
-is_run_in-directive_named : (t : Token) → is_run_in (directive_named t) ≡ false
+pub is_run_in-directive_named : (t : Token) → is_run_in (directive_named t) ≡ false
 unfolding directive_spelled
 is_run_in-directive_named t =
     elim (cases_Bool (is_name t)) [
@@ -37,15 +37,15 @@ is_run_in-directive_named t =
       | inr other ↦ rw other refl
     ]
 
-is_run-kind_unless : (cause : Option Cause) (at : Pos) (kind : ItemKind) → is_run kind ≡ false → is_run (kind_unless cause at kind) ≡ false
+pub is_run-kind_unless : (cause : Option Cause) (at : Pos) (kind : ItemKind) → is_run kind ≡ false → is_run (kind_unless cause at kind) ≡ false
 is_run-kind_unless None at kind h = h
 is_run-kind_unless (Some cause) at kind h = refl
 
-is_run-named_kind : (directive : Option ItemKind) (at : Pos) (operands : List Token) → is_run_in directive ≡ false → is_run (named_kind directive at operands) ≡ false
+pub is_run-named_kind : (directive : Option ItemKind) (at : Pos) (operands : List Token) → is_run_in directive ≡ false → is_run (named_kind directive at operands) ≡ false
 is_run-named_kind None at operands h = refl
 is_run-named_kind (Some kind) at operands h = is_run-kind_unless (cause_on kind operands) at kind h
 
-is_run-directive_kind : (at : Pos) (behind : List Token) → is_run (directive_kind at behind) ≡ false
+pub is_run-directive_kind : (at : Pos) (behind : List Token) → is_run (directive_kind at behind) ≡ false
 unfolding directive_kind
 is_run-directive_kind at [] = refl
 is_run-directive_kind at (word ∷ operands) = is_run-named_kind (directive_named word) at operands (is_run_in-directive_named word)

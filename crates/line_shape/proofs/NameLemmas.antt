@@ -1,5 +1,5 @@
 -- Lists of names, and keys with such spellings.
-use Rattle.std.proofs.Common.{◌≡◌, ℕ, Bool, true, false, not, ◌&&◌, ◌||◌, List, [], ◌∷◌, ◌++◌, map, refl, sym, ◌∙◌, subst, true≢false, inl, inr, arith}
+use Rattle.std.proofs.Common.{◌≡◌, ℕ, Bool, true, false, List, [], ◌∷◌, ◌++◌, map, refl, sym, ◌∙◌, subst, inl, inr, arith}
 use Rattle.std.specs.List.{list_any}
 use Rattle.std.specs.Str.{bytes_eq}
 use Rattle.std.proofs.lemmas.Bool.{cases_Bool, and_parts, not-true, or_parts}
@@ -7,6 +7,7 @@ use Rattle.std.proofs.lemmas.List.{map-append}
 use Rattle.std.proofs.lemmas.List.Folds.{list_any-append}
 use Rattle.std.proofs.Math.Bool.{or-true}
 use Rattle.cs_base.proofs.FileMapLemmas.{bytes_eq-same, bytes_eq-equal}
+use Rattle.cs_base.proofs.ListLemmas.{bytes_eq-apart}
 use Rattle.line_shape.specs.MacroLine.{are_distinct}
 
 -- a key passes the test exactly where its spelling does
@@ -17,13 +18,6 @@ list_any-map spelling p (k ∷ ks) = rw (list_any-map spelling p ks) refl
 
 pub bytes_eq-sym : (a b : List ℕ) → bytes_eq a b ≡ true → bytes_eq b a ≡ true
 bytes_eq-sym a b h = subst (λ (c : List ℕ). bytes_eq b c ≡ true) (sym (bytes_eq-equal a b h)) (bytes_eq-same b)
-
-pub bytes_eq-apart : (a b : List ℕ) → bytes_eq a b ≡ false → bytes_eq b a ≡ false
-bytes_eq-apart a b h =
-    elim (cases_Bool (bytes_eq b a)) [
-      | inl same ↦ absurd (true≢false (sym (bytes_eq-sym b a same) ∙ h))
-      | inr other ↦ other
-    ]
 
 -- a name that stands among those before it stands twice
 pub are_distinct-twice : (xs : List (List ℕ)) (y : List ℕ) (ys : List (List ℕ)) → list_any (bytes_eq y) xs ≡ true

@@ -1,5 +1,5 @@
 -- The pieces of a list of tokens: the first, and those behind.
-use Rattle.std.proofs.Common.{◌≡◌, ℕ, zero, suc, Bool, true, false, ◌&&◌, List, [], ◌∷◌, get_or, take, drop, refl, sym, ◌∙◌, inl, inr, arith}
+use Rattle.std.proofs.Common.{◌≡◌, ℕ, zero, suc, Bool, true, false, List, [], ◌∷◌, get_or, take, drop, refl, sym, ◌∙◌, inl, inr, arith}
 use Rattle.std.specs.List.{onto_first}
 use Rattle.std.proofs.lemmas.Bool.{cases_Bool, and_parts}
 use Rattle.cs_base.specs.Token.{Token}
@@ -20,7 +20,7 @@ unfolding pieces_of
 pieces_of-nil = refl
 
 -- a directive line is a piece
-onto_pieces-directive : (line : Piece) (pieces : List Piece) → is_run line.kind ≡ false → onto_pieces line pieces ≡ line ∷ pieces
+pub onto_pieces-directive : (line : Piece) (pieces : List Piece) → is_run line.kind ≡ false → onto_pieces line pieces ≡ line ∷ pieces
 onto_pieces-directive line [] h = refl
 onto_pieces-directive line (next ∷ pieces) h = rw h refl
 

@@ -7,12 +7,9 @@ use Rattle.std.specs.Cmp.Lexicographic.{bytes_decides, nat_list_eq_equiv}
 use Rattle.std.proofs.lemmas.Bool.{cases_Bool}
 use Rattle.std.proofs.lemmas.List.Folds.{find-append}
 use Rattle.cs_base.specs.Token.{Token}
+use Rattle.cs_base.proofs.OptionLemmas.{option_or-None}
 use Rattle.linkage_join.specs.Linkage.{UnitValue, first_spelled, names_of, link_to, unit_links}
 use Rattle.linkage_join.specs.Firsts.{Table, with_names, table_links}
-
-pub option_or-None : {X : Type 0} (a : Option X) → option_or a None ≡ a
-option_or-None None = refl
-option_or-None (Some x) = refl
 
 option_or-assoc : {X : Type 0} (a b c : Option X) → option_or a (option_or b c) ≡ option_or (option_or a b) c
 option_or-assoc None b c = refl

@@ -13,7 +13,7 @@ use Rattle.cs_base.specs.declared.tokens.Link.{Link}
 use Rattle.linkage_join.specs.Linkage.{UnitValue, first_spelled, names_of, unit_links, links_after, links_of}
 
 -- what one unit alone has of a project
-first_in_one : (project text : List ℕ) (u : UnitValue)
+pub first_in_one : (project text : List ℕ) (u : UnitValue)
     → first_spelled text (names_of project (u ∷ [])) ≡ (if bytes_eq project u.project then first_spelled text u.names else None)
 first_in_one project text u = elim (cases_Bool (bytes_eq project u.project)) [
   | inl own ↦ rw own (ap (first_spelled text) (append-nil u.names))

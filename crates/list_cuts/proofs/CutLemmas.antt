@@ -29,12 +29,12 @@ sum-woven f (i ∷ items) (g ∷ gaps) e =
     sum_by-append f i (g ++ woven items gaps) ∙ ap (λ (n : ℕ). sum_by f i + n) (sum_by-append f g (woven items gaps))
     ∙ omega (arith, sum_by-cons (sum_by f) i items, sum_by-cons (sum_by f) g gaps, rest)
 
-length-items_of : {X : Type 0} (order : List ℕ) (is : Items) (xs : List X) → length (items_of order is xs) ≡ count_of is
+pub length-items_of : {X : Type 0} (order : List ℕ) (is : Items) (xs : List X) → length (items_of order is xs) ≡ count_of is
 unfolding items_of count_of
 length-items_of order ended xs = refl
 length-items_of order (item n c gap more) xs = let rest = length-items_of order more (drop (n + gap) xs) in omega arith
 
-length-gaps_of : {X : Type 0} (is : Items) (xs : List X) → length (gaps_of is xs) ≡ count_of is
+pub length-gaps_of : {X : Type 0} (is : Items) (xs : List X) → length (gaps_of is xs) ≡ count_of is
 unfolding gaps_of count_of
 length-gaps_of ended xs = refl
 length-gaps_of (item n c gap more) xs = let rest = length-gaps_of more (drop (n + gap) xs) in omega arith

@@ -1,6 +1,6 @@
 -- Lists that change places one after the other, the last one first, do what the cut of them all does.
 use Rattle.std.proofs.Common.{ℕ, ◌+◌, ◌-◌, ◌≡◌, ◌<◌, ◌≤◌, true, List, [], ◌∷◌, ◌++◌, length, take, drop, map, refl, sym, ap, ◌∙◌, arith, inl, inr, length-take, length-drop, append_assoc, take-add, length-take-le, take-append-drop}
-use Rattle.std.specs.Prelude.{◌==◌, ◌&&◌, ◌||◌, nat_le}
+use Rattle.std.specs.Prelude.{◌==◌, ◌&&◌, nat_le}
 use Rattle.std.specs.List.{list_all}
 use Rattle.std.proofs.lemmas.Bool.{cases_Bool, and_parts, or_cases, leb-true, leb-false, le-leb, eqb-true}
 use Rattle.std.proofs.lemmas.List.{drop-drop, take-append-le, take-take, drop-take, take_at, drop_at}
@@ -29,7 +29,7 @@ of-back m n (keep k c) all = elim (cases_Bool (nat_le n k)) [ inl short ↦ rw s
 of-back m n (list is c) all =
     elim (cases_Bool (nat_le (span_of is) n)) [ inl whole ↦ rw whole (of-back m (n - span_of is) c all.2) | inr part ↦ rw part all ]
 
-between-none : (c : Cut) → is_between 0 c ≡ true
+pub between-none : (c : Cut) → is_between 0 c ≡ true
 unfolding is_between
 between-none done = refl
 between-none (keep k c) = let least : nat_le 0 k ≡ true = le-leb 0 k (omega arith) in rw least refl
@@ -38,7 +38,7 @@ between-none (list is c) = elim (cases_Bool (nat_le (span_of is) 0)) [
   | inr part ↦ rw part refl
 ]
 
-free-between : (n : ℕ) (c : Cut) → is_free n c ≡ true → is_between n c ≡ true
+pub free-between : (n : ℕ) (c : Cut) → is_free n c ≡ true → is_between n c ≡ true
 unfolding is_free is_between
 free-between n done h = refl
 free-between n (keep k c) h = elim (or_cases (nat_le n k) (is_free (n - k) c) h) [

@@ -5,3 +5,4 @@ pub mod OrderLemmas
 pub mod LengthLemmas
 pub mod CutLemmas
 pub mod CutOfLemmas
+pub mod PlanLemmas

@@ -153,6 +153,22 @@ pub rests-all : (m : Definition) (read cs : List (List Part)) → read ≡ chain
 unfolding chains_of
 rests-all m read cs was is = is ∙ ap (map (rest_or_chain m)) was
 
+-- in a unit of another standard a chain is as it is
+rest_of-none : (m : Definition) (c : List Part) → m.gnu ≡ false → rest_of m c ≡ None
+rest_of-none m [] other = refl
+rest_of-none m (p ∷ []) other = refl
+rest_of-none m (p ∷ q ∷ []) other = rw other refl
+rest_of-none m (p ∷ q ∷ r ∷ ps) other = refl
+
+rests-none : (m : Definition) (cs : List (List Part)) → m.gnu ≡ false → map (rest_or_chain m) cs ≡ cs
+rests-none m [] other = refl
+rests-none m (c ∷ cs) other =
+    ap (λ (o : Option ℕ). rest_or c o ∷ map (rest_or_chain m) cs) (rest_of-none m c other) ∙ ap (λ v. c ∷ v) (rests-none m cs other)
+
+pub no-rests : (m : Definition) (cs : List (List Part)) → m.gnu ≡ false → cs ≡ chains_in (parts_from m false m.body) → cs ≡ chains_of m
+unfolding chains_of
+no-rests m cs other is = is ∙ sym (rests-none m (chains_in (parts_from m false m.body)) other)
+
 -- the operand is the first one
 pub behind-first : (old mid new : List (List Part)) (p : Part) → old ≡ [] → mid ≡ [] → new ≡ mid ++ (p ∷ []) ∷ []
     → (ps : List Part) → behind_operand new ps ≡ onto_last old (chains_in (p ∷ ps))

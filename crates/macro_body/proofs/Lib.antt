@@ -5,8 +5,9 @@ pub mod ChainLemmas
 mod LiveLemmas
 mod DefiningLemmas
 mod HideLemmas
+mod NamePartLemmas
 pub mod KeptLemmas
-mod PredefinedLemmas
+pub mod PredefinedLemmas
 pub mod MakingLemmas
 pub mod PastingLemmas
 pub mod SoundLemmas

@@ -100,7 +100,11 @@ pub fn chains_of(alloc: Global, m: &Definition) -> Result<Vec<Chain>, Memory>
     ensures traced { IfOk result (λ chains. IsTrue (list_all is_traced m.now.body) → IsTrue (chains_traced chains.items)) }
 {
     let chains = read_chains(alloc, m)?;
-    with_rests(alloc, m, chains)
+    if m.gnu {
+        with_rests(alloc, m, chains)
+    } else {
+        Ok(chains)
+    }
 }
 
 // Chains, each of which is one part where it is a comma and the variable arguments.

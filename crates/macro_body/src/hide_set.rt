@@ -8,21 +8,23 @@ ghost use Rattle.cs_base.specs.Token.{Token};
 ghost use Rattle.line_shape.specs.MacroLine.{spellings};
 ghost use Rattle.macro_body.specs.Hides.{hides_name, in_both, lacking, with_names};
 
-use crate::shared_tokens::{push_shared, shared};
+use crate::name_parts::{NamePart, are_alike, are_alike_parts, is_in_parts, push_parts, with_part};
+use crate::shared_tokens::{all_shared, push_shared, shared};
 use cs_base::{Memory, Tok};
 use std::alloc::Global;
 use std::marker::Model;
 use std::rc::RcSlice;
 
-// So many names are copied where one is added.
+// So many names are looked through one by one, and copied where one is added.
 const MOST_COPIED: usize = 64;
 
-/// A hide set, kept as tokens that are spelled as its names, which its copies share: parts that are full, which
-/// larger sets share too, and the names behind them. An empty set keeps none. Contracts see the list of the names.
+/// A hide set, kept as tokens that are spelled as its names, which its copies share: parts of many names, which
+/// larger sets share too, each with more names than the next; and the few names behind them. So a name is sought
+/// in a time that grows as the logarithm of their number. An empty set keeps none. Contracts see the list of the names.
 #[derive(Drop)]
 pub struct HideSet {
     alloc: Global,
-    full: Option<RcSlice<RcSlice<Tok>>>,
+    full: Option<RcSlice<NamePart>>,
     last: Option<RcSlice<Tok>>,
 }
 
@@ -34,8 +36,8 @@ impl Model for HideSet {
 
     ghost Value = { List (List ℕ) };
 
-    ghost view = { λ h. spellings (flat_map rc_slice_items (unwrap_or (option_map rc_slice_items h.full) [])
-        ++ unwrap_or (option_map rc_slice_items h.last) []) };
+    ghost view = { λ h. flat_map (λ p. p) (unwrap_or (option_map rc_slice_items h.full) [])
+        ++ spellings (unwrap_or (option_map rc_slice_items h.last) []) };
 }
 
 impl HideSet {
@@ -49,14 +51,26 @@ impl HideSet {
         }
     }
 
-    // The set of these names.
-    fn of(alloc: Global, names: Vec<Tok>) -> Result<HideSet, Memory>
-        ensures { IfOk result (λ h. h ≡ spellings names.items) }
+    // The names of parts, and these behind them: where these are many, they are put into a part.
+    fn behind(
+        alloc: Global,
+        full: &Option<RcSlice<NamePart>>,
+        names: Vec<Tok>,
+    ) -> Result<HideSet, Memory>
+        ensures { IfOk result (λ h. h ≡ flat_map (λ p. p) (unwrap_or (option_map rc_slice_items full.now) []) ++ spellings names.items) }
     {
+        if names.len() <= MOST_COPIED {
+            return Ok(HideSet {
+                alloc,
+                full: same_parts(full)?,
+                last: Some(RcSlice::from_vec(names)?),
+            });
+        }
+        let parts = with_part(alloc, parts_in(full), names)?;
         Ok(HideSet {
             alloc,
-            full: None,
-            last: Some(RcSlice::from_vec(names)?),
+            full: Some(RcSlice::from_vec(parts)?),
+            last: None,
         })
     }
 
@@ -94,16 +108,8 @@ impl HideSet {
     pub fn add(&mut self, name: &Tok) -> Result<(), Memory>
         ensures { IfOk result (λ _. self.new ≡ self.old ++ name.now.text ∷ []) }
     {
-        let last = names_in(&self.last);
-        if last.len() < MOST_COPIED {
-            let more = with_one(self.alloc, last, name)?;
-            self.last = Some(RcSlice::from_vec(more)?);
-            return Ok(());
-        }
-        let parts = with_part(self.alloc, parts_in(&self.full), &self.last)?;
-        let more = with_one(self.alloc, &[], name)?;
-        self.full = Some(RcSlice::from_vec(parts)?);
-        self.last = Some(RcSlice::from_vec(more)?);
+        let names = with_one(self.alloc, names_in(&self.last), name)?;
+        *self = HideSet::behind(self.alloc, &self.full, names)?;
         Ok(())
     }
 
@@ -125,49 +131,29 @@ impl HideSet {
         if self.is_empty() {
             return more.copy(self.alloc);
         }
-        let mut names = self.listed(self.alloc)?;
+        let mut names = all_shared(self.alloc, names_in(&self.last))?;
         push_lacking(&mut names, &more.listed(self.alloc)?, self)?;
-        HideSet::of(self.alloc, names)
+        HideSet::behind(self.alloc, &self.full, names)
     }
 
     /// Whether another set is known to have the same names.
     pub fn is_same(&self, other: &HideSet) -> bool
         ensures { OnTrue result (self.now ≡ other.now) }
     {
-        match (&self.full, &other.full) {
-            (None, None) => are_alike(names_in(&self.last), names_in(&other.last)),
-            _ => false,
-        }
+        are_alike(names_in(&self.last), names_in(&other.last))
+            && are_alike_parts(parts_in(&self.full), parts_in(&other.full))
     }
 
     /// The names that are in another set too.
     pub fn common(&self, alloc: Global, other: &HideSet) -> Result<HideSet, Memory>
         ensures { IfOk result (λ h. h ≡ in_both self.now other.now) }
     {
-        let names = self.listed(alloc)?;
-        HideSet::of(alloc, common_names(alloc, &names, other)?)
-    }
-}
-
-// Whether tokens are spelled as others, first to first and so on.
-fn are_alike(xs: &[Tok], ys: &[Tok]) -> bool
-    ensures { OnTrue result (spellings xs.now ≡ spellings ys.now) }
-{
-    if xs.len() != ys.len() {
-        return false;
-    }
-    for k in 0..xs.len() {
-        if !is_alike(&xs[k], &ys[k]) {
-            return false;
+        if self.is_same(other) {
+            return self.copy(alloc);
         }
+        let names = self.listed(alloc)?;
+        HideSet::behind(alloc, &None, common_names(alloc, &names, other)?)
     }
-    true
-}
-
-fn is_alike(x: &Tok, y: &Tok) -> bool
-    ensures { OnTrue result (x.now.text ≡ y.now.text) }
-{
-    x.text() == y.text()
 }
 
 // Whether a token is spelled so.
@@ -213,7 +199,7 @@ fn names_in(last: &Option<RcSlice<Tok>>) -> &[Tok]
     }
 }
 
-fn parts_in(full: &Option<RcSlice<RcSlice<Tok>>>) -> &[RcSlice<Tok>]
+fn parts_in(full: &Option<RcSlice<NamePart>>) -> &[NamePart]
     ensures { result.now ≡ unwrap_or (option_map rc_slice_items full.now) [] }
 {
     match full {
@@ -231,30 +217,13 @@ fn same_names(last: &Option<RcSlice<Tok>>) -> Result<Option<RcSlice<Tok>>, Memor
     }
 }
 
-fn same_parts(full: &Option<RcSlice<RcSlice<Tok>>>) -> Result<Option<RcSlice<RcSlice<Tok>>>, Memory>
+fn same_parts(full: &Option<RcSlice<NamePart>>) -> Result<Option<RcSlice<NamePart>>, Memory>
     ensures { IfOk result (λ same. unwrap_or (option_map rc_slice_items same) [] ≡ unwrap_or (option_map rc_slice_items full.now) []) }
 {
     match full {
         Some(parts) => Ok(Some(parts.clone()?)),
         None => Ok(None),
     }
-}
-
-// Whether a token of a part is spelled so.
-fn is_in_parts(name: &[u8], parts: &[RcSlice<Tok>]) -> bool
-    ensures { result ≡ list_any (λ p. list_any (λ (t : Token). bytes_eq name.now t.text) (rc_slice_items p)) parts.now }
-{
-    parts.iter().any(|part| is_among(name, part.as_slice()))
-}
-
-// Adds the tokens of parts.
-fn push_parts(all: &mut Vec<Tok>, parts: &[RcSlice<Tok>]) -> Result<(), Memory>
-    ensures { IfOk result (λ _. all.new.items ≡ all.old.items ++ flat_map rc_slice_items parts.now) }
-{
-    for part in parts {
-        push_shared(all, part.as_slice())?;
-    }
-    Ok(())
 }
 
 // The tokens, and one more.
@@ -264,31 +233,5 @@ fn with_one(alloc: Global, names: &[Tok], name: &Tok) -> Result<Vec<Tok>, Memory
     let mut all = Vec::with_capacity(alloc, names.len() + 1)?;
     push_shared(&mut all, names)?;
     all.push(shared(name)?)?;
-    Ok(all)
-}
-
-// The parts, and the names behind them as one more.
-fn with_part(
-    alloc: Global,
-    parts: &[RcSlice<Tok>],
-    last: &Option<RcSlice<Tok>>,
-) -> Result<Vec<RcSlice<Tok>>, Memory>
-    ensures { IfOk result (λ all. flat_map rc_slice_items all.items
-        ≡ flat_map rc_slice_items parts.now ++ unwrap_or (option_map rc_slice_items last.now) []) }
-{
-    let mut all = same_handles(alloc, parts)?;
-    if let Some(names) = last {
-        all.push(names.clone()?)?;
-    }
-    Ok(all)
-}
-
-fn same_handles(alloc: Global, parts: &[RcSlice<Tok>]) -> Result<Vec<RcSlice<Tok>>, Memory>
-    ensures { IfOk result (λ all. flat_map rc_slice_items all.items ≡ flat_map rc_slice_items parts.now) }
-{
-    let mut all = Vec::with_capacity(alloc, parts.len() + 1)?;
-    for part in parts {
-        all.push(part.clone()?)?;
-    }
     Ok(all)
 }

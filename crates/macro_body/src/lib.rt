@@ -18,6 +18,7 @@ mod definitions;
 mod fault;
 mod hidden;
 mod hide_set;
+mod name_parts;
 mod notes;
 mod operands;
 mod parameters;

@@ -12,3 +12,4 @@ mod PlainLemmas
 pub mod TracedLemmas
 -- Words of the crates below, passed on.
 pub mod Below
+pub mod PutOutLemmas

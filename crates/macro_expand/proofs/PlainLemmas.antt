@@ -1,19 +1,22 @@
 -- A run expanded token by token: what is put out has no hide sets.
-use Rattle.std.proofs.Common.{◌≡◌, ℕ, ◌+◌, ◌≤◌, List, [], ◌∷◌, ◌++◌, length, true, Option, Some, None, option_to_list, Result, Ok, Err, IfOk, refl, sym, ap, subst, ◌∙◌, append_assoc, length-append, arith}
-use Rattle.std.proofs.lemmas.Bool.{and_parts}
-use Rattle.std.proofs.lemmas.List.{append-nil, map-append, length-map}
+use Rattle.std.proofs.Common.{◌≡◌, ℕ, ◌+◌, ◌≤◌, ◌&&◌, Bool, not, if◌then◌else◌, List, [], ◌∷◌, ◌++◌, length, map, reverse, true, false, is_some, Option, Some, None, option_to_list, Result, Ok, Err, IfOk, refl, sym, ap, subst, ◌∙◌, append_assoc, length-append, arith}
+use Rattle.std.proofs.lemmas.Bool.{and_parts, false≢true}
+use Rattle.std.proofs.lemmas.List.{append-nil, map-append, length-map, reverse-append}
 use Rattle.cs_base.specs.Answer.{Gives}
 use Rattle.cs_base.specs.Token.{Token}
 use Rattle.macro_body.specs.declared.fault.ExpandFault.{ExpandFault}
 use Rattle.macro_body.specs.Faults.{fault_of}
-use Rattle.macro_body.specs.Hides.{Hidden, hidden, toks_of, unhidden}
+use Rattle.macro_body.specs.declared.definitions.Definition.{Definition}
+use Rattle.macro_body.specs.Below.line_shape.Signs.{is_name}
+use Rattle.macro_body.specs.Hides.{Hidden, hidden, hide_more, hides_name, with_names, toks_of, unhidden}
 use Rattle.macro_body.specs.Macro.{Table}
 use Rattle.macro_body.specs.Notes.{Fault, Expanded}
 use Rattle.macro_body.specs.Sound.{is_sound, all_sound}
 use Rattle.macro_body.specs.Kept.{Kept, kept_with, finished, expanded_kept}
 use Rattle.macro_body.proofs.KeptLemmas.{kept_with-nil}
 use Rattle.macro_expand.specs.Expansion.{Setting, one_more, macro_of, whole, expansion}
-use Rattle.macro_expand.specs.Following.{IsTaken, IsPlain}
+use Rattle.macro_expand.specs.Following.{is_macro_name, IsTaken, IsPlain, IsPopped}
+use Rattle.macro_expand.specs.Frames.{rest_of}
 use Rattle.macro_expand.specs.Going.{before_behind, plain}
 use Rattle.macro_expand.proofs.GoingLemmas.{whole-nothing}
 use Rattle.macro_expand.proofs.CallLemmas.{nothing_taken}
@@ -44,24 +47,48 @@ plain-turn set depth before before2 first stayed ts rest rest2 out out2 work wor
     ∙ plain-finished k2 out (option_to_list stayed) (whole set depth (before_behind stayed depth before) rest2 work2)
     ∙ ap (plain out) (sym goes) ∙ ap (λ (xs : List Hidden). plain out (finished k [] (whole set depth before xs work))) (sym split) ∙ so_far
 
+-- no macro replaces a token that is no macro's name
+pub plain-none : (table : Table) (t : Token) (hides : List (List ℕ)) → is_macro_name table t ≡ false → macro_of table (hidden t hides) ≡ None
+plain-none table t hides plain = none (is_name t) (hides_name hides t.text) (table t.text) plain
+  where
+    none : (name out : Bool) (m : Option Definition) → (name && is_some m) ≡ false → (if name && not out then m else None) ≡ None
+    none false out m plain = refl
+    none true true m plain = refl
+    none true false None plain = refl
+    none true false (Some m) plain = absurd (false≢true (sym plain))
+
 -- a token that no macro replaces is put out
-pub plain-stays : (set : Setting) (depth before before2 : ℕ) (t : Token) (ts rest : List Hidden) (out out2 : List Token) (work : ℕ) (k : Kept) (all : PlainEnding)
-    → depth ≡ 0 → ts ≡ hidden t [] ∷ rest → macro_of set.table (hidden t []) ≡ None → before2 ≡ before + 1 → out2 ≡ out ++ t ∷ []
+pub plain-stays : (set : Setting) (depth before before2 : ℕ) (t : Token) (hides : List (List ℕ)) (ts rest : List Hidden) (out out2 : List Token) (work : ℕ) (k : Kept) (all : PlainEnding)
+    → depth ≡ 0 → ts ≡ hidden t hides ∷ rest → macro_of set.table (hidden t hides) ≡ None → before2 ≡ before + 1 → out2 ≡ out ++ t ∷ []
     → plain out (finished k [] (whole set depth before ts work)) ≡ all → plain out2 (finished k [] (whole set depth before2 rest work)) ≡ all
-plain-stays set depth before before2 t ts rest out out2 work k all outermost split none counted pushed so_far =
-    plain-turn set depth before before2 (hidden t []) (Some (hidden t [])) ts rest rest out out2 work work k k all
-    split (stays-goes set depth before (hidden t []) rest work k none)
+plain-stays set depth before before2 t hides ts rest out out2 work k all outermost split none counted pushed so_far =
+    plain-turn set depth before before2 (hidden t hides) (Some (hidden t hides)) ts rest rest out out2 work work k k all
+    split (stays-goes set depth before (hidden t hides) rest work k none)
     (counted ∙ sym (ap (λ (d : ℕ). one_more d before) outermost)) pushed so_far
 
 -- what was taken, where something was
 pub plain_taken : (table : Table) (o : Option Token) (t : Token) (ts rest : List Hidden) → o ≡ Some t → IsPlain table o ts rest
-    → (ts ≡ hidden t [] ∷ rest) × (macro_of table (hidden t []) ≡ None)
+    → (hides : List (List ℕ)) × (ts ≡ hidden t hides ∷ rest) × (macro_of table (hidden t hides) ≡ None)
 plain_taken table o t ts rest is taken =
     let P : Option Token → Type 0 = λ v. IsPlain table v ts rest in subst P is taken
 
-pub sound_behind : (t : Token) (ts rest : List Hidden) → ts ≡ hidden t [] ∷ rest → all_sound ts ≡ true → all_sound rest ≡ true
-sound_behind t ts rest split sound =
-    (and_parts (is_sound (hidden t [])) (all_sound rest) (sym (ap all_sound split) ∙ sound)).1
+pub sound_behind : (t : Token) (hides : List (List ℕ)) (ts rest : List Hidden) → ts ≡ hidden t hides ∷ rest → all_sound ts ≡ true → all_sound rest ≡ true
+sound_behind t hides ts rest split sound =
+    (and_parts (is_sound (hidden t hides)) (all_sound rest) (sym (ap all_sound split) ∙ sound)).1
+
+-- a token that was taken from what was lent
+pub lent_plain : (table : Table) (t : Token) (ts rest : List Hidden) → is_macro_name table t ≡ false → ts ≡ hidden t [] ∷ rest → IsPlain table (Some t) ts rest
+lent_plain table t ts rest plain split = ([], split, plain-none table t [] plain)
+
+-- a token that was taken from the top frame
+pub popped_plain : (table : Table) (o : Option Token) (names : List (List ℕ)) (toks toks2 low ts : List Hidden) → IsPopped table o toks toks2 → rest_of names toks ++ low ≡ ts
+    → IsPlain table o ts (rest_of names toks2 ++ low)
+popped_plain table None names toks toks2 low ts popped is = sym is ∙ ap (λ (xs : List Hidden). rest_of names xs ++ low) popped
+popped_plain table (Some t) names toks toks2 low ts popped is =
+    let hides = with_names popped.0 names in
+    let split : rest_of names toks ≡ hidden t hides ∷ rest_of names toks2 =
+    ap (λ (xs : List Hidden). map (hide_more names) (reverse xs)) popped.1 ∙ ap (map (hide_more names)) (reverse-append toks2 (hidden t popped.0 ∷ [])) in
+    (hides, sym is ∙ ap (λ (xs : List Hidden). xs ++ low) split, plain-none table t hides popped.2)
 
 pub plain-fault : (set : Setting) (depth before : ℕ) (first : Hidden) (ts rest : List Hidden) (out : List Token) (work : ℕ) (k : Kept) (all : PlainEnding)
     → ts ≡ first ∷ rest → plain out (finished k [] (whole set depth before ts work)) ≡ all

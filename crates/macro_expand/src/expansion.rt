@@ -88,8 +88,8 @@ impl<'a> Context<'a> {
         Ok(out)
     }
 
-    // Puts out the tokens before the first that may be replaced or that something was put before, where so many
-    // were put out; and gives how many are then.
+    // Puts out the tokens before the first that is the name of a macro, where so many were put out; and gives how
+    // many are then. What they come from, and their hide sets, mean nothing to them.
     fn plain_run(&self, before: u32, rest: &mut Rest, out: &mut Vec<Tok>) -> Result<u32, Memory>
         requires outermost { self.now.depth ≡ 0 }
         requires fits { before + length rest.old < 2 ^ 32 }

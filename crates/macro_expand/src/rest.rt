@@ -1,10 +1,9 @@
 // What follows in an expansion.
-ghost use Rattle.std.specs.Prelude.{◌≡◌, ◌&&◌, ◌++◌, [], List, map, reverse, is_some, option_copied, option_map, IfOk};
+ghost use Rattle.std.specs.Prelude.{◌≡◌, ◌++◌, [], List, map, reverse, option_copied, option_map, IfOk};
 ghost use Rattle.macro_body.specs.Live.{table_of};
-ghost use Rattle.macro_body.specs.Below.line_shape.Signs.{is_name};
 ghost use Rattle.macro_body.specs.Hides.{Hidden, hidden, hide_more};
 ghost use Rattle.macro_expand.specs.Frames.{AreFilled, rest_of, rests_above, lent_toks, IsRaised};
-ghost use Rattle.macro_expand.specs.Following.{first_of, IsTaken, IsPlain};
+ghost use Rattle.macro_expand.specs.Following.{first_of, is_macro_name, IsTaken, IsPlain, IsPopped};
 
 use cs_base::{Memory, Tok};
 use macro_body::{AddedNames, HiddenTok, HideSet, Macros, is_name, shared};
@@ -68,9 +67,23 @@ impl<'a> Lent<'a> {
 
 // Whether a token is the name of a macro.
 fn is_macro(tok: &Tok, macros: &Macros) -> bool
-    ensures { result ≡ (is_name tok.now && is_some (table_of macros.now tok.now.text)) }
+    ensures { result ≡ is_macro_name (table_of macros.now) tok.now }
 {
     is_name(tok) && macros.find(tok.text()).is_some()
+}
+
+// The token that is kept at the end, taken away without its hide set, where no macro has its name.
+fn pop_plain(toks: &mut Vec<HiddenTok>, macros: &Macros) -> Option<Tok>
+    ensures { IsPopped (table_of macros.now) result toks.old.items toks.new.items }
+{
+    match last_tok(toks) {
+        Some(tok) if !is_macro(tok, macros) => {}
+        _ => return None,
+    }
+    match toks.pop() {
+        Some(tok) => Some(tok.into_tok()),
+        None => None,
+    }
 }
 
 /// What is left of a result that was put before what followed: the next token is kept at the end. The
@@ -142,14 +155,15 @@ impl<'a> Rest<'a> {
         }
     }
 
-    /// The next token, taken away, where nothing was put before it and no macro has its name.
+    /// The next token, taken away without its hide set, where no macro has its name.
     pub fn take_plain(&mut self, macros: &Macros) -> Result<Option<Tok>, Memory>
         ensures { IfOk result (λ taken. IsPlain (table_of macros.now) taken self.old self.new) }
     {
-        if !self.toks.is_empty() || !self.below.is_empty() {
-            return Ok(None);
+        raise(&mut self.toks, &mut self.names, &mut self.below);
+        if self.toks.is_empty() {
+            return self.lent.take_plain(macros);
         }
-        self.lent.take_plain(macros)
+        Ok(pop_plain(&mut self.toks, macros))
     }
 
     /// Puts tokens before all others, to which further names are not available.

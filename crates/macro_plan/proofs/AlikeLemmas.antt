@@ -2,8 +2,8 @@
 use Rattle.std.proofs.Common.{◌≡◌, ℕ, ◌+◌, ◌<◌, ◌≤◌, List, [], ◌∷◌, ◌++◌, length, map, take, get_or, Some, slice_get, refl, sym, ap, ◌∙◌}
 use Rattle.std.proofs.lemmas.List.{map-append, take_more, take_all}
 use Rattle.cs_base.specs.Token.{Token}
+use Rattle.cs_base.proofs.ListLemmas.{next as taken-more}
 use Rattle.macro_plan.specs.Kept.{plain, plains}
-use Rattle.macro_rules.proofs.WalkLemmas.{taken-more}
 
 pub alike_next : (ts us : List Token) (k : ℕ) (t u : Token) → k < length ts → k < length us → t ≡ get_or ts k t → u ≡ get_or us k u
     → plains (take k ts) ≡ plains (take k us) → plain t ≡ plain u → plains (take (k + 1) ts) ≡ plains (take (k + 1) us)

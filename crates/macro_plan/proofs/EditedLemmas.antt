@@ -1,7 +1,7 @@
 -- The files of an analysis once edits are made, and the units over them.
-use Rattle.std.proofs.Common.{◌≡◌, ℕ, zero, suc, ◌+◌, ◌<◌, ◌≤◌, true, false, List, [], ◌∷◌, ◌++◌, length, get_or, drop, Option, Some, None, Result, Ok, Err, slice_get, inl, inr, refl, sym, ap, subst, ◌∙◌, arith}
+use Rattle.std.proofs.Common.{◌≡◌, ℕ, zero, suc, ◌+◌, ◌<◌, ◌≤◌, true, false, List, [], ◌∷◌, ◌++◌, length, get_or, drop, Option, Some, None, Result, Ok, Err, slice_get, inl, inr, refl, sym, ap, subst, ◌∙◌}
 use Rattle.std.specs.Prelude.{◌⊎◌, IfSome, OnOk, if◌then◌else◌, map}
-use Rattle.std.specs.Option.{option_map, option_and_then, unwrap_or}
+use Rattle.std.specs.Option.{option_and_then, unwrap_or}
 use Rattle.std.specs.Str.{bytes_eq}
 use Rattle.std.proofs.lemmas.Bool.{cases_Bool}
 use Rattle.std.proofs.lemmas.List.{at_drop_more, at_drop_all}
@@ -10,14 +10,16 @@ use Rattle.cs_base.proofs.FileMapLemmas.{bytes_eq-equal}
 use Rattle.cs_base.specs.Edit.{Edit, edit}
 use Rattle.cs_base.specs.Outside.{FileMap, bytes_at}
 use Rattle.analysis.specs.Below.source_files.Files.{Source, source_of, Found, Lines, Absent, Unopened, Opened, Made, Table, is_absent, absent_at}
-use Rattle.analysis.specs.Below.source_files.KeptFiles.{KeptValue, kept, kept_bytes, kept_in, kept_at}
+use Rattle.analysis.specs.Below.source_files.KeptFiles.{KeptValue, kept, kept_in, kept_at}
 use Rattle.analysis.specs.Below.source_files.Tables.{IsFound, AreFound}
 use Rattle.analysis.specs.Below.include_tree.PseudoFiles.{is_pseudo}
 use Rattle.analysis.specs.Below.unit_steps.Texts.{UnitTextValue}
 use Rattle.analysis.specs.Analysis.{UnitAnalysis, AnalysisValue}
 use Rattle.analysis.specs.Carrying.{IsOver}
-use Rattle.analysis.specs.Tables.{IsPseudoIfMade, MadeArePseudo, MadeFilesArePseudo, TablesAreFound}
+use Rattle.analysis.specs.Tables.{MadeArePseudo, MadeFilesArePseudo, TablesAreFound}
 use Rattle.analysis.specs.Texts.{TextsValue, texts_of}
+use Rattle.analysis.proofs.TableLemmas.{entry_held}
+use Rattle.analysis.proofs.Below.source_files.KeptLemmas.{absent-within as absent_within}
 use Rattle.macro_plan.specs.Edited.{bytes_for, edited_bytes, IsEditedFile, AreEdited, StayAbsent, StayAlike}
 use Rattle.edited_files.specs.Edited.{AreMade}
 use Rattle.macro_plan.specs.Kept.{plains, KeepsTokens}
@@ -116,19 +118,6 @@ no_bytes path (d ∷ edits) none (suc k) e at = elim (cases_Bool (bytes_eq d.pat
 
 -- ---- what the files held
 
-not_both : (path : List ℕ) → is_pseudo path ≡ true → is_pseudo path ≡ false → ⊥
-not_both path made real = let e : true ≡ false = sym made ∙ real in cc
-
-entry_held : (source : Source) (number : ℕ) (path : List ℕ) (found : Found) (f : KeptValue) → IsFound source path found → IsPseudoIfMade path found
-    → is_pseudo f.path ≡ false → option_map (kept number path) (kept_bytes found) ≡ Some f → source f.path ≡ Some f.bytes
-entry_held source number path Lines f is made real at = absurd cc
-entry_held source number path Absent f is made real at = absurd cc
-entry_held source number path (Unopened bytes) f is made real at = absurd cc
-entry_held source number path (Opened bytes) f is made real at =
-    subst (λ (g : KeptValue). source g.path ≡ Some g.bytes) (same_Some (kept number path bytes) f at) is
-entry_held source number path (Made bytes) f is made real at =
-    absurd (not_both path made (subst (λ (g : KeptValue). is_pseudo g.path ≡ false) (sym (same_Some (kept number path bytes) f at)) real))
-
 number_held : (source : Source) (t : Table) (k number : ℕ) (f : KeptValue) → AreFound source t → MadeArePseudo t → is_pseudo f.path ≡ false
     → option_and_then (kept_in number) (slice_get t k) ≡ Some f → source f.path ≡ Some f.bytes
 number_held source [] zero number f found made real at = absurd cc
@@ -150,12 +139,6 @@ absent_held source [] zero path found at = absurd cc
 absent_held source [] (suc k) path found at = absurd cc
 absent_held source (e ∷ t) zero path found at = entry_absent source e.path path e.found found.0 at
 absent_held source (e ∷ t) (suc k) path found at = absent_held source t k path found.1 at
-
-absent_within : (t : Table) (k : ℕ) (path : List ℕ) → absent_at t k ≡ Some path → k < length t
-absent_within [] zero path at = absurd cc
-absent_within [] (suc k) path at = absurd cc
-absent_within (e ∷ t) zero path at = omega arith
-absent_within (e ∷ t) (suc k) path at = let later = absent_within t k path at in omega (arith, later)
 
 -- ---- what they hold
 

@@ -1,12 +1,12 @@
 -- What is answered for a place, by what is answered for a class.
-use Rattle.std.proofs.Common.{◌≡◌, ℕ, true, false, Bool, List, [], ◌∷◌, length, Some, None, Result, Ok, Err, inl, inr, refl, sym, subst, ◌∙◌, arith}
-use Rattle.std.specs.Prelude.{◌==◌}
-use Rattle.std.specs.List.{list_all}
-use Rattle.std.proofs.lemmas.Bool.{and_parts, cases_Bool, eqb-true}
+use Rattle.std.proofs.Common.{◌≡◌, ℕ, true, false, List, [], length, Some, None, Result, Ok, Err, inl, inr, refl, subst}
+use Rattle.std.proofs.lemmas.Bool.{cases_Bool}
 use Rattle.cs_base.specs.declared.positions.Part.{Part}
 use Rattle.cs_base.specs.Edit.{Edit}
-use Rattle.list_cuts.specs.Cuts.{IsOrder, numbers}
-use Rattle.list_cuts.specs.Orders.{is_order, has_number}
+use Rattle.cs_base.proofs.BoolLemmas.{not_both}
+use Rattle.list_cuts.specs.Cuts.{IsOrder}
+use Rattle.list_cuts.specs.Orders.{is_order}
+use Rattle.list_cuts.proofs.PlanLemmas.{is_of_length}
 use Rattle.analysis.specs.Analysis.{AnalysisValue}
 use Rattle.offences.specs.declared.refusals.Refusal.{Refusal}
 use Rattle.offences.specs.declared.refusals.Refusal.TheVariants.{NotAMacro, BadOrder}
@@ -17,24 +17,10 @@ use Rattle.macro_plan.specs.Macro.{IsMacro, IsOrdered, IsTurned}
 
 -- ---- orders
 
-is_of_length : (n : ℕ) (order : List ℕ) → is_order n order ≡ true → length order ≡ n
-is_of_length n order is = eqb-true (length order) n (and_parts (length order == n) (list_all (has_number order) (numbers 1 n)) is).0
-
 pub order_told : (n : ℕ) (order : List ℕ) → is_order n order ≡ true → IsOrder n order → IsOrder (length order) order
 order_told n order is told = rw (is_of_length n order is) told
 
 -- ---- answers for a class
-
-not_both : (b : Bool) → b ≡ true → b ≡ false → ⊥
-not_both b is other = let e : true ≡ false = sym is ∙ other in cc
-
-pub nil_from : {X : Type 0} (xs : List X) → true ≡ (length xs == 0) → xs ≡ []
-nil_from [] e = refl
-nil_from (x ∷ xs) e = absurd (let same = eqb-true (length (x ∷ xs)) 0 (sym e) in omega (arith, same))
-
-pub not_nil : {X : Type 0} (xs : List X) → false ≡ (length xs == 0) → xs ≡ [] → ⊥
-not_nil [] e none = cc
-not_nil (x ∷ xs) e none = cc
 
 module _ (a : AnalysisValue) (members : List Part) (order : List ℕ) where
   pub no_macro : class_heads members a ≡ [] → IsOrdered a members order (Err NotAMacro)

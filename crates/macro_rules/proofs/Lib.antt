@@ -4,3 +4,4 @@ pub mod CountLemmas
 pub mod ListLemmas
 pub mod LineLemmas
 pub mod EditLemmas
+pub mod RestLemmas

@@ -3,11 +3,13 @@ use Rattle.std.proofs.Common.{◌≡◌, ℕ, zero, suc, ◌+◌, ◌-◌, ◌<�
 use Rattle.std.specs.Prelude.{◌==◌}
 use Rattle.std.specs.Option.{option_map, option_map_or}
 use Rattle.std.proofs.lemmas.Bool.{cases_Bool}
+use Rattle.std.proofs.lemmas.Option.{same_Some as one}
 use Rattle.analysis.specs.Below.lexer.Characters.{line_feed}
 use Rattle.analysis.specs.Below.lexer.Logical.{Character, character, logical_from, logical_of}
 use Rattle.analysis.specs.Below.lexer.Lines.{byte_offset_of}
 use Rattle.analysis.specs.Below.lexer.GoneTable.{going}
 use Rattle.analysis.proofs.Below.lexer.GoneLemmas.{logical_from-going, logical_from-empty}
+use Rattle.analysis.proofs.Below.lexer.OrderLemmas.{nothing, offset_none}
 use Rattle.macro_rules.specs.FileOffences.{is_line_feed_at, line_begin}
 
 -- ---- bytes of characters
@@ -30,13 +32,6 @@ first at b bs c is =
     let none : c.offset - at ≡ 0 = omega (arith, offset) in
     record { behind = omega (arith, offset); inside = omega (arith, offset); byte = rw none byte }
 
-one : {X : Type 0} (x y : X) → Some x ≡ Some y → x ≡ y
-one x y e = cc
-
-nothing : (k : ℕ) (c : Character) → slice_get [] k ≡ Some c → ⊥
-nothing zero c e = cc
-nothing (suc k) c e = cc
-
 character_byte : (skip at k : ℕ) (bs : List ℕ) (c : Character) → slice_get (logical_from skip at bs) k ≡ Some c → IsByte at bs c
 character_byte skip at k [] c found =
     let none = rw (logical_from-empty skip at) at found in absurd (nothing k c none)
@@ -56,11 +51,6 @@ character_byte skip at (suc k) (b ∷ bs) c found = elim (cases_Bool (going skip
       let there = rw (logical_from-going skip at b bs, goes) at found in
       later at b bs c (character_byte (going skip b bs - 1) (at + 1) (suc k) bs c there)
 ]
-
-offset_none : (r : Option Character) → option_map (λ (c : Character). c.offset) r ≡ None
-    → option_map_or (λ (c : Character). c.byte == line_feed) r false ≡ false
-offset_none None is = refl
-offset_none (Some c) is = absurd cc
 
 offset_some : (r : Option Character) (b : ℕ) → option_map (λ (c : Character). c.offset) r ≡ Some b
     → (c : Character) × (r ≡ Some c) × (c.offset ≡ b)

@@ -7,6 +7,7 @@ use Rattle.std.proofs.lemmas.List.{at_drop_more, at_drop_all, get_or_default, ta
 use Rattle.std.proofs.lemmas.Option.{slice_get-get_or, slice_get_past}
 use Rattle.cs_base.specs.declared.positions.Pos.{Pos}
 use Rattle.cs_base.specs.Token.{Token, origin_at}
+use Rattle.cs_base.proofs.ListLemmas.{next as taken-more}
 use Rattle.list_cuts.specs.Cuts.{numbers}
 use Rattle.analysis.specs.Below.source_files.Files.{Table, Entry, Absent, entry}
 use Rattle.analysis.specs.Below.source_files.KeptFiles.{KeptValue, kept_at}
@@ -87,14 +88,6 @@ module _ {A : Type 0} (find : KeptValue → List A) where
       sym (append-nil now) ∙ ap (λ (xs : List A). now ++ xs) (sym (at_drop_all (found_from find k) table k past)) ∙ so_far
 
 -- ---- units
-
-pub taken-more : {X : Type 0} (xs : List X) (k : ℕ) (x : X) → slice_get xs k ≡ Some x → take (k + 1) xs ≡ take k xs ++ x ∷ []
-taken-more [] zero x at = absurd cc
-taken-more [] (suc k) x at = absurd cc
-taken-more {X = X} (y ∷ xs) zero x at = let same : y ≡ x = cc in rw same refl
-taken-more (y ∷ xs) (suc k) x at =
-    let one : suc k + 1 ≡ suc (k + 1) = omega arith in
-    rw one (ap (λ zs. y ∷ zs) (taken-more xs k x at))
 
 pub units_next : {X A : Type 0} (g : X → List A) (xs : List X) (k : ℕ) (x : X) (first before now : List A) → slice_get xs k ≡ Some x
     → before ≡ first ++ flat_map g (take k xs) → now ≡ before ++ g x → now ≡ first ++ flat_map g (take (k + 1) xs)

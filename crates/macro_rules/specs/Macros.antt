@@ -1,6 +1,6 @@
 -- The macros that a class names (this project's, over ISO/IEC 9899:1999, 6.10.3): those of the `define` lines that some unit
 -- processes and whose whole name is one member of the class; and what replaces a name.
-use Rattle.std.specs.Prelude.{ℕ, ◌==◌, ◌&&◌, ◌||◌, not, if◌then◌else◌, Bool, true, false, Option, Some, None, List, [], ◌∷◌, codes, drop, length, slice_get}
+use Rattle.std.specs.Prelude.{ℕ, ◌-◌, ◌==◌, ◌&&◌, ◌||◌, not, if◌then◌else◌, Bool, true, false, Option, Some, None, List, [], ◌∷◌, codes, drop, length, slice_get}
 use Rattle.std.specs.List.{flat_map, list_any}
 use Rattle.std.specs.Option.{option_map_or, unwrap_or}
 use Rattle.std.specs.Str.{bytes_eq}
@@ -9,7 +9,7 @@ use Rattle.cs_base.specs.declared.positions.Pos.{Pos}
 use Rattle.cs_base.specs.Token.{Token, origin_at}
 use Rattle.line_shape.specs.declared.items.Item.{Item}
 use Rattle.line_shape.specs.Signs.{is_ellipsis}
-use Rattle.line_shape.specs.MacroLine.{is_function_like, before_close, behind_close, params_in}
+use Rattle.line_shape.specs.MacroLine.{is_function_like, before_close, behind_close, has_named_rest, params_in}
 use Rattle.analysis.specs.Below.unit_steps.declared.events.Event.{Event}
 use Rattle.analysis.specs.Below.unit_steps.declared.events.EventKind.{EventKind}
 use Rattle.analysis.specs.Below.unit_steps.declared.events.EventKind.TheVariants as kind
@@ -99,9 +99,13 @@ list_of line = before_close (drop 4 line)
 abbrev pub has_list : List Token → Bool
 has_list line = is_function_like (drop 3 line)
 
--- how many parameters it has, `...` not counted
+-- how many names that a list has are no parameter: in GNU C the one in front of `...` names the rest
+abbrev pub rests_of : List Token → ℕ
+rests_of list = if has_named_rest list then 1 else 0
+
+-- how many parameters it has, `...` not counted, nor the name of a rest
 abbrev pub parameters_of : List Token → ℕ
-parameters_of line = if has_list line then length (params_in (list_of line)) else 0
+parameters_of line = if has_list line then length (params_in (list_of line)) - rests_of (list_of line) else 0
 
 -- it has a list that does not end in `...`
 abbrev pub is_fixed : List Token → Bool

@@ -2,12 +2,12 @@
 ghost use Rattle.std.specs.Prelude.{◌≡◌, ◌++◌, [], if◌then◌else◌, drop, length, IfOk, OnOk};
 ghost use Rattle.std.specs.List.{flat_map, list_any};
 ghost use Rattle.std.specs.Option.{option_map_or, unwrap_or};
-ghost use Rattle.line_shape.specs.MacroLine.{is_function_like, before_close, behind_close, params_in};
+ghost use Rattle.line_shape.specs.MacroLine.{is_function_like, before_close, behind_close, has_named_rest, params_in};
 ghost use Rattle.line_shape.specs.Signs.{is_ellipsis, is_name};
 ghost use Rattle.analysis.specs.Below.source_files.KeptFiles.{kept_at};
 ghost use Rattle.macro_rules.specs.Files.{in_items};
 ghost use Rattle.macro_rules.specs.Levels.{paired};
-ghost use Rattle.macro_rules.specs.Macros.{has_list, parameters_of, is_fixed, body_of, in_define, loose_place, loose_places};
+ghost use Rattle.macro_rules.specs.Macros.{has_list, rests_of, parameters_of, is_fixed, body_of, in_define, loose_place, loose_places};
 
 use crate::files::{is_define, item_toks, items_in};
 use crate::levels::{closes, level_behind};
@@ -80,6 +80,31 @@ fn has_ellipsis(toks: &[Tok]) -> bool
     false
 }
 
+// Whether the last name before the first `)` names a rest: `...` stands behind it, and nothing else.
+fn has_named_rest(toks: &[Tok]) -> bool
+    ensures { result ≡ has_named_rest (before_close toks.now) }
+{
+    let mut ends = false;
+    let mut named = false;
+    let mut rest = toks;
+    'tokens: while let [tok, after @ ..] = rest {
+        if is_close(tok) {
+            return ends;
+        }
+        ends = is_ellipsis(tok) && named;
+        named = is_name(tok);
+        rest = after;
+    }
+    ends
+}
+
+// How many names before the first `)` are no parameters.
+fn rests_before_close(toks: &[Tok]) -> usize
+    ensures { result ≡ rests_of (before_close toks.now) }
+{
+    if has_named_rest(toks) { 1 } else { 0 }
+}
+
 // The tokens behind the first `)`.
 fn behind_close(toks: &[Tok]) -> &[Tok]
     ensures { result.now ≡ unwrap_or (behind_close toks.now) [] }
@@ -94,12 +119,13 @@ fn behind_close(toks: &[Tok]) -> &[Tok]
     &[]
 }
 
-/// How many parameters it has, `...` not counted.
+/// How many parameters it has, `...` not counted, nor the name of a rest.
 pub(crate) fn parameters_of(line: &[Tok]) -> usize
     ensures { result ≡ parameters_of line.now }
 {
     if has_list(line) {
-        names_before_close(behind(line, 4))
+        let list = behind(line, 4);
+        names_before_close(list).saturating_sub(rests_before_close(list))
     } else {
         0
     }

@@ -1,10 +1,12 @@
 -- Renamings of the rows that break meaning, and what stands against them.
-use Rattle.std.proofs.Common.{◌≡◌, ℕ, Bool, true, false, List, [], map, Result, Ok, Err, refl, sym, ap, subst}
+use Rattle.std.proofs.Common.{ℕ, Bool, true, false, List, [], map, Result, Ok, Err, refl, sym, ap, subst}
+use Rattle.std.proofs.lemmas.Bool.{false≢true as differ}
 use Rattle.std.specs.Prelude.{◌&&◌, ◌==◌, not, codes}
 use Rattle.std.specs.Str.{bytes_eq}
 use Rattle.cs_base.specs.declared.causes.Cause.TheVariants.{Occurs, Clash, ShadowedTypedef}
 use Rattle.cs_base.specs.declared.tokens.Kind.TheVariants.{Ident}
 use Rattle.cs_base.specs.Token.{Token}
+use Rattle.cs_base.proofs.ListLemmas.{any_at}
 use Rattle.analysis.specs.Below.lexer.Places.{pos}
 use Rattle.analysis.specs.Below.lexer.Tokens.{file_token}
 use Rattle.part_respell.specs.Respelled.{spelled, spelled_from}
@@ -17,7 +19,7 @@ use Rattle.analysis.specs.Below.scope_bind.declared.bound.Name.{Name}
 use Rattle.analysis.specs.Below.scope_bind.Bound.{Bound, binding_of}
 use Rattle.analysis.specs.Below.scope_bind.Walk.{walked}
 use Rattle.rename_rules.specs.Tokens.{holders}
-use Rattle.edited_unit_laws.proofs.ListLemmas.{In, any_at}
+use Rattle.edited_unit_laws.proofs.ListLemmas.{In}
 use Rattle.meaning_rows.specs.Rows.{member, BreaksMeaning, IsOffence, two_objects, pasted_name, pasted_names, hidden_typedef}
 use Rattle.meaning_rows.proofs.OffenceLemmas as offences
 use Rattle.meaning_rows.proofs.RowLemmas.{breaks, its_bound}
@@ -33,9 +35,6 @@ entities (Err fault) = []
 abbrev size : Result Node Stop → ℕ
 size (Ok tree) = size_of tree.under
 size (Err stop) = 0
-
-differ : false ≡ true → ⊥
-differ e = cc
 
 -- ---- int x;int y; where both are y
 

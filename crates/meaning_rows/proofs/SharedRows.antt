@@ -1,15 +1,13 @@
 -- Two units of one project whose names fall together: each is read and bound as before, and they share an entity.
-use Rattle.std.proofs.Common.{◌≡◌, ℕ, Bool, true, false, List, [], ◌∷◌, ◌++◌, map, Option, Some, Ok, refl, sym, ap, subst, ◌∙◌}
+use Rattle.std.proofs.Common.{◌≡◌, ℕ, true, false, List, [], ◌∷◌, ◌++◌, map, Option, Some, refl, sym, ap, subst, ◌∙◌}
 use Rattle.std.specs.Prelude.{◌&&◌, not, codes, slice_get}
-use Rattle.std.specs.List.{flat_map}
-use Rattle.std.specs.Option.{option_map, option_and_then}
+use Rattle.std.specs.Option.{option_and_then}
 use Rattle.std.specs.Str.{bytes_eq}
-use Rattle.std.proofs.lemmas.Option.{slice_get-map}
 use Rattle.cs_base.specs.declared.causes.Cause.TheVariants.{Clash}
 use Rattle.cs_base.specs.declared.positions.Part.{Part}
-use Rattle.cs_base.specs.declared.positions.Pos.{Pos}
 use Rattle.cs_base.specs.Token.{Token}
 use Rattle.cs_base.specs.Units.{UnitValue}
+use Rattle.cs_base.proofs.ListLemmas.{any_at}
 use Rattle.analysis.specs.Below.lexer.Places.{pos}
 use Rattle.part_respell.specs.Respelled.{respelled, spelled, spelled_from}
 use Rattle.analysis.specs.Below.c99_read.Reading.{read_within, whole, take_one, at_end, enter}
@@ -21,16 +19,16 @@ use Rattle.analysis.specs.Below.scope_bind.Walk.{walked}
 use Rattle.analysis.specs.Below.macro_expand.Renaming.{renamed}
 use Rattle.analysis.specs.Analysis.{UnitAnalysis, AnalysisValue}
 use Rattle.analysis.specs.FileTokens.{file_tokens}
-use Rattle.analysis.proofs.NamingLemmas.{in_left, in_right, in_filter}
+use Rattle.analysis.proofs.NamingLemmas.{in_right, in_filter}
 use Rattle.edited_unit_laws.specs.Lines.{Each}
 use Rattle.edited_unit_laws.specs.Analyses.{ReadsAlike}
 use Rattle.rename_rules.specs.Tokens.{pasted_tokens, holders}
 use Rattle.offences.specs.Tokens.{holds_member}
-use Rattle.edited_unit_laws.proofs.ListLemmas.{In, in_flat, any_at}
+use Rattle.edited_unit_laws.proofs.ListLemmas.{In, in_flat}
 use Rattle.renamed.specs.Renamed.{spell_from, renaming_of}
-use Rattle.analysis.specs.Changed.{Renaming, renamed_analysis, renamed_unit_analysis, ExternalName, external_name, external_if, external_at, is_one_entity, denote_one}
+use Rattle.analysis.specs.Changed.{Renaming, renamed_analysis, renamed_unit_analysis, ExternalName, external_name, external_if, is_one_entity, denote_one}
 use Rattle.meaning_rows.specs.Rows.{member}
-use Rattle.meaning_rows.specs.Shared.{TwoUnits, Tokens, Has, AreOf, StandsAgainst, KeepsEachReading, BreaksSharing, KeepsDeclared, declared_name, two_names}
+use Rattle.meaning_rows.specs.Shared.{TwoUnits, Tokens, Has, AreOf, StandsAgainst, KeepsEachReading, BreaksSharing, declared_name, two_names}
 use Rattle.meaning_rows.proofs.OffenceLemmas.{clashes_at, clash_stands}
 use Rattle.meaning_rows.proofs.RowLemmas.{ReadSo, renaming, unit_bound, unit_keeps}
 use Rattle.meaning_rows.proofs.RowTokens.{IsBound, tree_of, bound_of}

@@ -6,6 +6,7 @@ use Rattle.std.proofs.lemmas.Bool.{cases_Bool, eqb-true, cond-false, cond_both, 
 use Rattle.std.proofs.lemmas.List.{length_push, length-take-le, get_or_append_left, get_or_push}
 use Rattle.std.proofs.Math.Seq.{take-append_seam}
 use Rattle.cs_base.specs.Token.{Token}
+use Rattle.cs_base.proofs.BoolLemmas.{and_none as and_false}
 use Rattle.c_types.specs.declared.declarations.Declaration.{Declaration}
 use Rattle.c_types.specs.declared.declarations.Space.{Space}
 use Rattle.name_chains.specs.declared.latest.Asked.{Asked}
@@ -18,10 +19,6 @@ use Rattle.name_chains.specs.Chains.{name_key, name_key_of, lasts, has_begun, ha
 use Rattle.name_chains.proofs.LatestLemmas.{slice_get_some}
 use Rattle.name_chains.proofs.ChainLemmas.{passes_here, leads_to, left_whole, left_all, left_on}
 use Rattle.name_chains.proofs.ChainedMore.{get_front, take_front, apart}
-
-and_false : (b c : Bool) → c ≡ false → (b && c) ≡ false
-and_false true c e = e
-and_false false c e = refl
 
 not_before : (m n : ℕ) → n ≤ m → nat_lt m n ≡ false
 not_before m n l = elim (cases_Bool (nat_lt m n)) [ inl before ↦ absurd (omega (arith, l, ltb-true m n before)) | inr e ↦ e ]

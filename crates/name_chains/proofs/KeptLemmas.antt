@@ -5,6 +5,7 @@ use Rattle.std.specs.Option.{option_and_then, option_to_list}
 use Rattle.std.specs.List.{cons_option}
 use Rattle.std.proofs.lemmas.List.{append-nil, reverse-append}
 use Rattle.std.proofs.lemmas.List.Elements.{filter_map-append}
+use Rattle.cs_base.proofs.ListLemmas.{get-front}
 
 cons_append : {B : Type 0} (o : Option B) (xs ys : List B) → cons_option o (xs ++ ys) ≡ cons_option o xs ++ ys
 cons_append None xs ys = refl
@@ -36,12 +37,6 @@ kept_reversed f (x ∷ xs) =
     ∙ sym (reverse_cons (f x) (filter_map f xs))))
 
 -- ---- A list that is put behind its own front
-
--- what stands behind a front is not read there
-get-front : {A : Type 0} (xs ys : List A) (n : ℕ) → n < length xs → slice_get (xs ++ ys) n ≡ slice_get xs n
-get-front [] ys n l = absurd (omega arith)
-get-front (x ∷ xs) ys zero l = refl
-get-front (x ∷ xs) ys (suc n) l = get-front xs ys n (omega arith)
 
 -- one element more is asked, and put behind the list where it is kept
 pub kept-step : {A : Type 0} (f : A → Option A) (xs ys zs : List A) (n : ℕ) (o : Option A) → n < length xs

@@ -6,6 +6,7 @@ use Rattle.std.proofs.lemmas.Bool.{cases_eq, eq-eqb, ne_eqb, cond-false}
 use Rattle.std.proofs.lemmas.List.{reverse-append, reverse-reverse, length-reverse}
 use Rattle.std.proofs.Math.Path.{fun_ext}
 use Rattle.cs_base.specs.Token.{Token}
+use Rattle.cs_base.proofs.BoolLemmas.{none_and as and_none, and_true}
 use Rattle.c_types.specs.declared.entity.Linkage.{Linkage}
 use Rattle.c_types.specs.declared.entity.Linkage.TheVariants.{External, Internal, Absent}
 use Rattle.c_types.specs.declared.declarations.Space.{Space}
@@ -90,14 +91,6 @@ eqb_pair a b c d there back =
       | inl same ↦ eq-eqb a b same ∙ sym (eq-eqb c d (there same))
       | inr other ↦ ne_eqb a b other ∙ sym (ne_eqb c d (λ e. other (back e)))
     ]
-
-and_true : (b : Bool) → b ≡ (b && true)
-and_true true = refl
-and_true false = refl
-
-and_none : (b : Bool) → false ≡ (b && false)
-and_none true = refl
-and_none false = refl
 
 no_key : (n : ℕ) (b : Bool) → 0 < n → (n == 0) ≡ (b && false)
 no_key n b l = ne_eqb n 0 (λ e. omega (arith, l, e)) ∙ and_none b

@@ -9,25 +9,14 @@ use Rattle.std.proofs.lemmas.List.{map-append, take_more}
 use Rattle.std.proofs.lemmas.List.Folds.{list_any_at}
 use Rattle.std.proofs.lemmas.List.Quantifiers.{position-Some}
 use Rattle.std.proofs.lemmas.List.Sums.{fails_before_first, position_or_len_is}
-use Rattle.std.proofs.lemmas.Slice.Eq.{bytes_eq-Decides}
 use Rattle.std.proofs.Math.ListN.{get_or-append, length-map}
 use Rattle.std.proofs.Math.Seq.{get_or-append_seam}
 use Rattle.cs_base.specs.Token.{Token}
+use Rattle.cs_base.proofs.OptionLemmas.{None≢Some, one_place}
+use Rattle.cs_base.proofs.FileMapLemmas.{bytes_eq-equal as same_spelling}
+use Rattle.cs_base.proofs.ListLemmas.{spelled_same}
 use Rattle.c_types.specs.Declarations.{spelling_at}
 use Rattle.name_chains.specs.Spellings.{number_at, AreNumbers, AreNumbered, IsNumberOf}
-
--- equal spellings are equal as lists, and only those
-same_spelling : (a b : List ℕ) → bytes_eq a b ≡ true → a ≡ b
-same_spelling a b h = (bytes_eq-Decides a b).0 h
-
-spelled_same : (a b : List ℕ) → a ≡ b → bytes_eq a b ≡ true
-spelled_same a b h = (bytes_eq-Decides a b).1 h
-
-one_place : (i j : ℕ) → Some i ≡ Some j → i ≡ j
-one_place i j e = cc
-
-None≢Some : (n : ℕ) → None ≡ Some n → ⊥
-None≢Some n e = cc
 
 -- ---- Numbers are equal where spellings are
 

@@ -1,10 +1,11 @@
 -- The tables make the renaming of the class.
-use Rattle.std.proofs.Common.{◌≡◌, ℕ, zero, suc, ◌+◌, ◌<◌, ◌≤◌, List, [], ◌∷◌, ◌++◌, length, take, get_or, Option, Some, None, inl, inr, refl, sym, ap, subst, ◌∙◌, arith}
+use Rattle.std.proofs.Common.{◌≡◌, ℕ, zero, suc, ◌≤◌, List, [], ◌∷◌, ◌++◌, length, take, get_or, Option, Some, None, inl, inr, refl, sym, ap, subst, ◌∙◌, arith}
 use Rattle.std.specs.Option.{option_map_or, option_and_then}
 use Rattle.std.proofs.lemmas.Bool.{cases_lt}
 use Rattle.std.proofs.lemmas.Option.{slice_get_past}
 use Rattle.cs_base.specs.declared.positions.Part.{Part}
 use Rattle.cs_base.specs.declared.positions.Pos.{Pos}
+use Rattle.cs_base.proofs.ListLemmas.{default}
 use Rattle.analysis.specs.Below.lexer.Places.{pos, origins_from}
 use Rattle.analysis.specs.Below.lexer.Respelling.{respell}
 use Rattle.part_respell.specs.Respelled.{put_at as what_at, put_for, put_of as putting, moved_to}
@@ -23,11 +24,6 @@ get_past : {X : Type 0} (xs : List X) (k : ℕ) (d : X) → length xs ≤ k → 
 get_past [] k d past = refl
 get_past (x ∷ xs) zero d past = absurd (omega (arith, past))
 get_past (x ∷ xs) (suc k) d past = get_past xs k d (omega (arith, past))
-
-default : {X : Type 0} (xs : List X) (k : ℕ) (x y : X) → k < length xs → get_or xs k x ≡ get_or xs k y
-default [] k x y less = absurd (omega (arith, less))
-default (z ∷ xs) zero x y less = refl
-default (z ∷ xs) (suc k) x y less = default xs k x y (omega (arith, less))
 
 take_past : {X : Type 0} (xs : List X) (k : ℕ) → length xs ≤ k → take k xs ≡ take (length xs) xs
 take_past [] zero past = refl

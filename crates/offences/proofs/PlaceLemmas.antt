@@ -1,28 +1,18 @@
 -- Paths of a table, each of which stands once, and the files that are kept by their numbers.
-use Rattle.std.proofs.Common.{◌≡◌, ℕ, zero, suc, Bool, true, not, List, [], ◌∷◌, Option, Some, None, inl, inr, refl, sym, ap, ◌∙◌}
+use Rattle.std.proofs.Common.{◌≡◌, ℕ, zero, suc, true, not, List, [], ◌∷◌, Option, Some, None, refl, sym, ap, ◌∙◌}
 use Rattle.std.specs.Prelude.{slice_get}
 use Rattle.std.specs.List.{list_any}
 use Rattle.std.specs.Option.{option_map, option_and_then}
-use Rattle.std.specs.Ordering.{nat_cmp, is_eq}
 use Rattle.std.specs.Str.{bytes_eq}
-use Rattle.std.specs.Cmp.Lexicographic.{slice_cmp}
-use Rattle.std.specs.declared.cmp.Ordering.TheVariants.{Equal}
-use Rattle.std.proofs.lemmas.Bool.{cases_Bool, and_parts}
-use Rattle.std.proofs.lemmas.Map.Text.{is_eq-slice_cmp}
+use Rattle.std.proofs.lemmas.Bool.{and_parts}
 use Rattle.std.proofs.lemmas.Option.{same_Some, none-some}
-use Rattle.cs_base.proofs.FileMapLemmas.{bytes_eq-same, bytes_eq-equal}
+use Rattle.cs_base.proofs.FileMapLemmas.{bytes_eq-same}
+use Rattle.cs_base.proofs.ListLemmas.{any_at as any_from}
 use Rattle.analysis.specs.Below.line_shape.MacroLine.{are_distinct}
 use Rattle.analysis.specs.Below.source_files.Files.{Entry, Table}
 use Rattle.analysis.specs.Below.source_files.KeptFiles.{KeptValue, kept, kept_bytes, kept_in, kept_at}
 use Rattle.analysis.specs.Below.source_files.Tables.{paths_in}
-
-any_from : {X : Type 0} (test : X → Bool) (xs : List X) (k : ℕ) (x : X) → slice_get xs k ≡ Some x → test x ≡ true → list_any test xs ≡ true
-any_from test [] k x e h = absurd (cc)
-any_from test (y ∷ xs) zero x e h = let here : test y ≡ true = ap test (same_Some y x e) ∙ h in rw here refl
-any_from test (y ∷ xs) (suc k) x e h = elim (cases_Bool (test y)) [
-  | inl yes' ↦ rw yes' refl
-  | inr no' ↦ rw no' (any_from test xs k x e h)
-]
+use Rattle.analysis.proofs.Below.source_files.KeptLemmas.{path_in as path_of_entry}
 
 twice : (y : List ℕ) (ys : List (List ℕ)) (k : ℕ) (x : List ℕ) → are_distinct (y ∷ ys) ≡ true → y ≡ x → slice_get ys k ≡ Some x → ⊥
 twice y ys k x distinct same at =
@@ -39,11 +29,6 @@ one_place (y ∷ ys) (suc i) (suc j) x distinct e f =
     ap suc (one_place ys i j x ((and_parts (not (list_any (bytes_eq y) ys)) (are_distinct ys) distinct).1) e f)
 
 -- ---- entries of a table
-
-pub path_of_entry : (table : Table) (n : ℕ) (e : Entry) → slice_get table n ≡ Some e → slice_get (paths_in table) n ≡ Some e.path
-path_of_entry [] n e at = absurd (none-some e at)
-path_of_entry (x ∷ table) zero e at = ap (λ (d : Entry). Some d.path) (same_Some x e at)
-path_of_entry (x ∷ table) (suc n) e at = path_of_entry table n e at
 
 -- a kept file has the path and the number of its entry
 pub record IsOfEntry (n : ℕ) (e : Entry) (f : KeptValue) : Type 0 where
@@ -71,6 +56,3 @@ kept_there table n f h =
     path_of_entry table n r.0 r.1 ∙ ap (λ (p : List ℕ). Some p) (sym of.path)
 
 -- ---- paths
-
-pub tied : (xs ys : List ℕ) → slice_cmp nat_cmp xs ys ≡ Equal → xs ≡ ys
-tied xs ys e = bytes_eq-equal xs ys (sym (is_eq-slice_cmp xs ys) ∙ ap is_eq e)

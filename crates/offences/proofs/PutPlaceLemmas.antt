@@ -1,5 +1,5 @@
 -- Where the characters of a file move, one behind the other.
-use Rattle.std.proofs.Common.{◌≡◌, ℕ, zero, suc, ◌+◌, ◌<◌, ◌≤◌, ◌==◌, List, [], ◌∷◌, ◌++◌, length, take, get_or, Option, Some, None, inl, inr, refl, sym, ap, subst, ◌∙◌, arith, length-append, ◌-◌, nat_lt, is_some}
+use Rattle.std.proofs.Common.{◌≡◌, ℕ, zero, suc, ◌+◌, ◌<◌, ◌≤◌, ◌==◌, List, [], ◌∷◌, ◌++◌, length, take, get_or, Option, Some, None, inl, inr, refl, sym, ap, subst, ◌∙◌, arith, length-append, nat_lt, is_some}
 use Rattle.std.specs.Option.{option_map, option_map_or}
 use Rattle.std.proofs.lemmas.Bool.{cases_Bool, cases_eq, cases_lt, lt-ltb, ltb-true, false_from_ne_true}
 use Rattle.std.proofs.lemmas.Option.{slice_get-get_or, slice_get_past}
@@ -8,9 +8,10 @@ use Rattle.std.proofs.Math.Seq.{get_or-append_seam}
 use Rattle.cs_base.specs.declared.positions.Part.{Part}
 use Rattle.cs_base.specs.declared.positions.Pos.{Pos}
 use Rattle.analysis.specs.Below.lexer.Lines.{byte_offset_of}
-use Rattle.analysis.specs.Below.lexer.Logical.{Character as ALogical, gone_length, logical_from, logical_of}
+use Rattle.analysis.specs.Below.lexer.Logical.{Character as ALogical, logical_of}
 use Rattle.analysis.specs.Below.lexer.Places.{pos}
 use Rattle.analysis.specs.Below.lexer.Respelling.{Put as Putting, respell}
+use Rattle.analysis.proofs.Below.lexer.LogicalLemmas.{logical_from-within as logical_short}
 use Rattle.part_respell.specs.Respelled.{member_over, put_in as what_in, put_at as what_at, put_of as putting, moved_to}
 use Rattle.offences.specs.declared.puts.Put.{Put}
 use Rattle.offences.specs.declared.puts.Put.TheVariants.{Character, Name, Nothing}
@@ -99,16 +100,6 @@ places_end members name number bytes n places end past are =
     subst (λ (k : ℕ). ArePlaces members name number bytes k places end) same are
 
 -- ---- how many characters a text has
-
-logical_short : (skip at : ℕ) (bs : List ℕ) → length (logical_from skip at bs) ≤ length bs
-unfolding logical_from
-logical_short zero at [] = omega arith
-logical_short (suc skip) at [] = omega arith
-logical_short (suc skip) at (c ∷ cs) = let rest = logical_short skip (at + 1) cs in omega (arith, rest)
-logical_short zero at (c ∷ cs) = elim (cases_Bool (gone_length c cs == 0)) [
-  | inl stays ↦ rw stays (let rest = logical_short 0 (at + 1) cs in omega (arith, rest))
-  | inr goes ↦ rw goes (let rest = logical_short (gone_length c cs - 1) (at + 1) cs in omega (arith, rest))
-]
 
 pub text_short : (bytes : List ℕ) → length (text_in bytes) ≤ length bytes
 unfolding logical_of

@@ -1,13 +1,12 @@
 -- Two first offences among some are one: they stand at one place and have one cause, where each path of the table stands once.
-use Rattle.std.proofs.Common.{◌≡◌, ℕ, List, [], Option, None, Some, inl, inr, refl, sym, ap, subst, ◌∙◌}
-use Rattle.std.specs.Prelude.{◌==◌, nat_lt, slice_get}
+use Rattle.std.proofs.Common.{◌≡◌, ℕ, List, [], Option, None, Some, refl, sym, ap, subst, ◌∙◌}
+use Rattle.std.specs.Prelude.{slice_get}
 use Rattle.std.specs.Cmp.{IsTotalOrder}
 use Rattle.std.specs.Cmp.Lexicographic.{slice_cmp}
 use Rattle.std.specs.Option.{option_map_or}
 use Rattle.std.specs.Ordering.{nat_cmp, ordering_then, ordering_reverse}
 use Rattle.std.specs.declared.cmp.Ordering.{Ordering}
 use Rattle.std.specs.declared.cmp.Ordering.TheVariants.{Less, Equal, Greater}
-use Rattle.std.proofs.lemmas.Bool.{cases_Bool, eqb-true}
 use Rattle.std.proofs.lemmas.Cmp.{then_total, on_total, nat_list_cmp_total, nat_cmp_total}
 use Rattle.std.proofs.lemmas.Option.{none-some, same_Some}
 use Rattle.cs_base.specs.declared.causes.Cause.{Cause}
@@ -22,9 +21,10 @@ use Rattle.analysis.specs.Places.{place_at, place_in_file, place_in_lines}
 use Rattle.offences.specs.declared.firsts.Offence.{Offence}
 use Rattle.offences.specs.First.{offence_cmp, path_of, position_cmp, IsAmong, IsFirst}
 use Rattle.offences.specs.Refusals.{refused_for}
-use Rattle.offences.proofs.PlaceLemmas.{one_place, tied, kept_there}
+use Rattle.offences.proofs.PlaceLemmas.{one_place, kept_there}
 use Rattle.offences.specs.declared.refusals.Refusal.TheVariants as refusal
 use Rattle.cs_base.proofs.CauseLemmas.{one_cause}
+use Rattle.cs_base.proofs.OrderLemmas.{nat_cmp-tie as number_equal, tied}
 
 -- ---- orders
 
@@ -32,15 +32,6 @@ then_equal : (o p : Ordering) → ordering_then o p ≡ Equal → (o ≡ Equal) 
 then_equal Less p e = cc
 then_equal Equal p e = (refl, e)
 then_equal Greater p e = cc
-
-number_equal : (m n : ℕ) → nat_cmp m n ≡ Equal → m ≡ n
-number_equal m n e = elim (cases_Bool (nat_lt m n)) [
-  | inl less ↦ (let wrong : Less ≡ Equal = rw less at e in absurd (cc))
-  | inr not_less ↦ elim (cases_Bool (m == n)) [
-    | inl same ↦ eqb-true m n same
-    | inr apart ↦ (let wrong : Greater ≡ Equal = rw (not_less, apart) at e in absurd (cc))
-  ]
-]
 
 offences_total : (table : Table) → IsTotalOrder (offence_cmp table)
 offences_total table =

@@ -10,6 +10,7 @@ use Rattle.cs_base.specs.Padding.{padded}
 use Rattle.cs_base.specs.Token.{Token, IsToken, IsTraced, origin_at}
 use Rattle.cs_base.proofs.OriginLemmas.{padded_whole}
 use Rattle.analysis.specs.Below.lexer.Places.{pos, origins_from}
+use Rattle.analysis.proofs.Below.lexer.OriginLemmas.{length-origins as origins_length}
 use Rattle.offences.specs.declared.moves.Moves.{Moves}
 use Rattle.offences.specs.Moves.{put_by, move_by, spell_of, trace_of, spell_by, trace_by}
 
@@ -35,10 +36,6 @@ origins_pushed file at k old mid new before pushed =
 -- no origin is missing
 pub padded_long : (n : ℕ) (os : List (Option Pos)) → length os ≡ n → padded n os ≡ os
 padded_long n os same = padded_whole n os same
-
-origins_length : (file at n : ℕ) → length (origins_from file at n) ≡ n
-origins_length file at zero = refl
-origins_length file at (suc n) = ap suc (origins_length file (at + 1) n)
 
 origins_some : (file at n : ℕ) → list_all is_some (origins_from file at n) ≡ true
 origins_some file at zero = refl

@@ -5,8 +5,8 @@ use Rattle.std.specs.Option.{option_map, option_map_or}
 use Rattle.std.proofs.lemmas.Bool.{cases_Bool, ne_eqb, eq-eqb, le-leb}
 use borrow.Author.Tests.{ltb-false}
 use Rattle.std.proofs.lemmas.List.{drop_more, drop_all}
-use Rattle.std.proofs.lemmas.Option.{slice_get_within, get_or_from_slice_get}
 use Rattle.cs_base.specs.declared.positions.Part.{Part}
+use Rattle.cs_base.proofs.ListLemmas.{drop-some as drop_at, drop_none}
 use Rattle.eclass_map.specs.ClassTable.{nowhere}
 use Rattle.eclass_map.specs.Positions.{holds}
 use Rattle.lexer.specs.Logical.{Character, gone_length, logical_from, logical_of}
@@ -95,16 +95,6 @@ small file bytes text lexed =
     apart : {X : Type 0} {x : X} {f : LexFault} → Err f ≡ Ok x → ⊥
     apart e = cc
 
-drop_at : {X : Type 0} (xs : List X) (k : ℕ) (x : X) → slice_get xs k ≡ Some x → drop k xs ≡ x ∷ drop (k + 1) xs
-drop_at {X = X} xs k x at =
-    drop_more xs k x (slice_get_within xs k x at) ∙ ap (λ (y : X). y ∷ drop (k + 1) xs) (get_or_from_slice_get xs k x x at)
-
-drop_none : {X : Type 0} (xs : List X) (k : ℕ) → slice_get xs k ≡ None → drop k xs ≡ []
-drop_none [] zero at = refl
-drop_none [] (suc k) at = refl
-drop_none (x ∷ xs) zero at = let no : Some x ≡ None = at in absurd cc
-drop_none (x ∷ xs) (suc k) at = drop_none xs k at
-
 -- the character that stands at an offset
 character_is : (offset : ℕ) (r : Option Character)
     → option_map_or (λ byte. byte == offset) (option_map (λ (c : Character). c.offset) r) false ≡ true
@@ -113,7 +103,7 @@ character_is offset None h = absurd cc
 character_is offset (Some c) h = (c, refl, h)
 
 -- a byte at which none does
-edited_at-byte : (put : Put) (at offset b : ℕ) (bs : List ℕ) (all : List Character) (r : Option Character) → slice_get all at ≡ r
+pub edited_at-byte : (put : Put) (at offset b : ℕ) (bs : List ℕ) (all : List Character) (r : Option Character) → slice_get all at ≡ r
     → option_map_or (λ byte. byte == offset) (option_map (λ (c : Character). c.offset) r) false ≡ false
     → edited_at put at (drop at all) offset (b ∷ bs) ≡ b ∷ edited_at put at (drop at all) (offset + 1) bs
 unfolding edited_at

@@ -1,14 +1,15 @@
 -- The numbers of source files, and the order of files.
 use Rattle.std.proofs.Common.{◌≡◌, ℕ, ◌+◌, ◌<◌, ◌≤◌, true, false, List, [], ◌∷◌, ◌++◌, length, drop, get_or, refl, sym, ap, ◌∙◌, append_assoc, ⊎_elim}
-use Rattle.std.specs.Prelude.{◌==◌, if◌then◌else◌, nat_lt}
+use Rattle.std.specs.Prelude.{if◌then◌else◌}
 use Rattle.std.specs.Cmp.Lexicographic.{slice_cmp}
 use Rattle.std.specs.Ordering.{nat_cmp, ordering_then}
 use Rattle.std.specs.declared.cmp.Ordering.{Ordering}
 use Rattle.std.specs.declared.cmp.Ordering.TheVariants.{Less, Equal, Greater}
-use Rattle.std.proofs.lemmas.Bool.{cases_Bool, eqb-true}
+use Rattle.std.proofs.lemmas.Bool.{cases_Bool}
 use Rattle.std.proofs.lemmas.Cmp.{then_total, on_total, nat_list_cmp_total, nat_cmp_total}
 use Rattle.std.proofs.lemmas.List.{at_drop_more, at_drop_all}
 use Rattle.std.proofs.lemmas.Option.{slice_get-get_or}
+use Rattle.cs_base.proofs.OrderLemmas.{nat_cmp-tie}
 use Rattle.analysis.specs.Below.source_files.Files.{Table, Entry, Absent, entry}
 use Rattle.analysis.specs.Below.source_files.KeptFiles.{kept_in, kept_at}
 use Rattle.query_report.specs.Order.{is_source, numbers_from, path_at, file_cmp}
@@ -18,17 +19,6 @@ then_tie : (o p : Ordering) → ordering_then o p ≡ Equal → p ≡ Equal
 then_tie Less p e = cc
 then_tie Equal p e = e
 then_tie Greater p e = cc
-
-nat_cmp-tie : (m n : ℕ) → nat_cmp m n ≡ Equal → m ≡ n
-nat_cmp-tie m n e =
-    ⊎_elim
-    (λ (less : nat_lt m n ≡ true). let e' : Less ≡ Equal = rw less at e in cc)
-    (λ (not_less : nat_lt m n ≡ false).
-    ⊎_elim
-    (λ (same : (m == n) ≡ true). eqb-true m n same)
-    (λ (apart : (m == n) ≡ false). let e' : Greater ≡ Equal = rw (not_less, apart) at e in cc)
-    (cases_Bool (m == n)))
-    (cases_Bool (nat_lt m n))
 
 -- two files tie only where they are one
 pub file_cmp-strict : (table : Table) → IsStrict (file_cmp table)

@@ -1,7 +1,8 @@
 -- Patterns, and what becomes of them.
-use Rattle.std.proofs.Common.{◌≡◌, ℕ, Bool, true, false, List, [], ◌∷◌, ◌++◌, inl, inr, refl, sym, ap, subst}
-use Rattle.std.specs.Prelude.{◌==◌}
+use Rattle.std.proofs.Common.{◌≡◌, ℕ, ◌<◌, ◌≤◌, Bool, true, false, List, [], ◌∷◌, ◌++◌, length, inl, inr, refl, sym, ap, subst, arith, length-append}
+use Rattle.std.specs.Prelude.{◌==◌, filter}
 use Rattle.std.proofs.lemmas.Bool.{cases_Bool, cases_eq, eq-eqb, eqb-true, ne_eqb}
+use Rattle.query_words.specs.PlaceMarks.{is_kept}
 use Rattle.query_words.specs.Patterns.{goes_on, matches, some_end, star, Becomes, nothing, replaced, kept}
 
 -- an end of a text that passes a test
@@ -60,3 +61,22 @@ matches_of pattern text nothing = refl
 matches_of pattern text (replaced {pattern = rest} {text = back} bytes later) = has_end (matches rest) bytes back (matches_of rest back later)
 matches_of pattern text (kept {pattern = rest} {text = back} c other later) =
     rw (ne_eqb c star other, eq-eqb c c refl, matches_of rest back later) refl
+
+-- ---- texts that are too short
+
+-- what becomes of a pattern has each of its bytes that stand for themselves
+becomes_longer : (pattern text : List ℕ) → Becomes pattern text → length (filter is_kept pattern) ≤ length text
+becomes_longer pattern text nothing = omega arith
+becomes_longer pattern text (replaced {pattern = rest} {text = back} bytes later) =
+    let less = becomes_longer rest back later in
+    let long = length-append bytes back in
+    omega (arith, less, long)
+becomes_longer pattern text (kept {pattern = rest} {text = back} c other later) =
+    let less = becomes_longer rest back later in
+    rw (ne_eqb c star other) (omega (arith, less))
+
+pub matches_none_longer : (pattern text : List ℕ) → length text < length (filter is_kept pattern) → matches pattern text ≡ false
+matches_none_longer pattern text short = elim (cases_Bool (matches pattern text)) [
+  | inl is ↦ let less = becomes_longer pattern text (becomes_of pattern text is) in absurd (omega (arith, less, short))
+  | inr none ↦ none
+]

@@ -7,4 +7,5 @@ pub mod PatternLemmas
 pub mod PlaceLemmas
 pub mod ReadingLemmas
 pub mod SatisfyingLemmas
+mod TellingLemmas
 pub mod WalkLemmas

@@ -9,3 +9,4 @@ pub mod Laws
 -- What inner functions promise each other.
 pub mod Walk
 pub mod PlaceMarks
+pub mod Telling

@@ -1,5 +1,5 @@
 -- Marks on the places of a pattern: what the functions that set them promise.
-use Rattle.std.specs.Prelude.{ℕ, ◌≡◌, ◌≤◌, ◌==◌, ◌&&◌, ◌||◌, if◌then◌else◌, Bool, false, List, length, drop, slice_index_or}
+use Rattle.std.specs.Prelude.{ℕ, ◌≡◌, ◌≤◌, ◌==◌, ◌&&◌, ◌||◌, if◌then◌else◌, Bool, false, not, List, length, drop, slice_index_or}
 use Rattle.query_words.specs.Patterns.{matches, star}
 
 -- A place is marked where the pattern from there on matches the text.
@@ -15,3 +15,7 @@ without_bytes c next = (c == star) && next
 -- does, and `next` whether its rest matches all.
 abbrev pub with_byte : ℕ → ℕ → Bool → Bool → Bool → Bool
 with_byte c byte here behind next = if c == star then next || here else ((byte == c) && behind)
+
+-- a byte of a pattern that stands for itself
+abbrev pub is_kept : ℕ → Bool
+is_kept c = not (c == star)

@@ -6,7 +6,9 @@
 //! `specs/Patterns.antt` tells: each `*` stands for any bytes. What the attributes of a class are belongs to those who
 //! ask. At most 64 `!` and `(` are open at once, so the walk needs little stack; it makes no tree and takes no memory, but
 //! for a row of marks that the caller hands in. It costs as much as the query is long, and for each pattern as much
-//! as pattern times spelling. Read `specs/Queries.antt` and `specs/Reading.antt`, then `walk.rt`.
+//! as pattern times spelling, or as the pattern alone where more of its bytes stand for themselves than the spelling has.
+//! `Told` remembers what a query that asks for no spelling said of attributes. Read `specs/Queries.antt` and
+//! `specs/Reading.antt`, then `walk.rt`.
 #![tactic(auto)]
 
 ghost use Rattle.std.specs.Prelude.{◌≡◌, ◌<◌, ◌^◌, length};
@@ -20,11 +22,13 @@ mod attributes;
 mod faults;
 mod laws;
 mod patterns;
+mod told;
 mod walk;
 
 pub use attributes::{Attribute, Facts};
 pub use faults::QueryFault;
 pub use laws::{patterns_are_replaced, queries_are_derived};
+pub use told::Told;
 
 /// How many `!` and `(` may be open at once.
 const DEPTH_LIMIT: usize = 64;

@@ -2,9 +2,9 @@
 //
 // The spelling is gone through from its end: marked are the places of the pattern from which it matches what was gone
 // through. So a `*` is never tried twice at one byte, whatever follows it.
-ghost use Rattle.std.specs.Prelude.{ℕ, List, [], ◌∷◌, ◌≡◌, ◌<◌, length};
+ghost use Rattle.std.specs.Prelude.{ℕ, List, [], ◌∷◌, ◌≡◌, ◌<◌, filter, length};
 ghost use Rattle.query_words.specs.Patterns.{matches};
-ghost use Rattle.query_words.specs.PlaceMarks.{AreAtEnd, with_byte, without_bytes};
+ghost use Rattle.query_words.specs.PlaceMarks.{AreAtEnd, is_kept, with_byte, without_bytes};
 
 // Whether a pattern that begins with a byte matches no byte at all, by whether what follows does.
 fn without_bytes(c: u8, next: bool) -> bool
@@ -51,11 +51,21 @@ fn mark_byte(pattern: &[u8], byte: u8, places: &mut [bool])
     }
 }
 
-/// Whether the pattern matches the whole text.
+// How many bytes of a pattern stand for themselves.
+fn count_kept(pattern: &[u8]) -> usize
+    ensures { result ≡ length (filter is_kept pattern.now) }
+{
+    pattern.iter().filter(|c| **c != b'*').count()
+}
+
+/// Whether the pattern matches the whole text: it does not where more of its bytes stand for themselves than the text has.
 pub fn matches(pattern: &[u8], text: &[u8], places: &mut [bool]) -> bool
     requires { length pattern.now < length places.old }
     ensures { result ≡ matches pattern.now text.now }
 {
+    if text.len() < count_kept(pattern) {
+        return false;
+    }
     mark_none(pattern, places);
     for k in (0..text.len()).rev() {
         mark_byte(pattern, text[k], places);

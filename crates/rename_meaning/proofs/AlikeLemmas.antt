@@ -8,6 +8,7 @@ use Rattle.cs_base.specs.declared.positions.Part.{Part}
 use Rattle.cs_base.specs.declared.positions.Pos.{Pos}
 use Rattle.cs_base.specs.declared.tokens.Link.{Link}
 use Rattle.cs_base.specs.Token.{Token, origin_at}
+use Rattle.cs_base.proofs.PlaceLemmas.{pos_is as same_pos}
 use Rattle.analysis.specs.Below.eclass_map.Chain.{here}
 use Rattle.analysis.specs.Below.eclass_map.ClassTable.{Table, Same, part_of}
 use Rattle.analysis.specs.Below.eclass_map.Positions.{along, holds}
@@ -19,7 +20,6 @@ use Rattle.analysis.specs.Links.{links_of, linked_pairs, pair_of}
 use Rattle.analysis.specs.Parts.{Begins, IsCharacter, IsStart, IsPart}
 use Rattle.analysis.proofs.ClassLemmas.{character_told, same_told, same_held, part_held, held_by}
 use Rattle.offences.specs.Class.{IsClass}
-use Rattle.analysis.proofs.Below.eclass_map.PartPlaces.{same_pos}
 use Rattle.offences.proofs.ClassLemmas.{over_member, over_other}
 use Rattle.edited_unit_laws.proofs.ListLemmas.{In}
 use Rattle.rename_meaning.proofs.SpellLemmas.{PutAlike, spelled-alike}

@@ -8,9 +8,10 @@ use Rattle.std.proofs.lemmas.Option.{none-some, same_Some, slice_get_within}
 use Rattle.cs_base.specs.declared.positions.Part.{Part}
 use Rattle.cs_base.specs.declared.positions.Pos.{Pos}
 use Rattle.cs_base.specs.Token.{Token}
+use Rattle.cs_base.proofs.ListLemmas.{any_at}
 use Rattle.lexer.specs.Places.{pos}
 use Rattle.lexer.specs.Tokens.{tokens_of, firsts_of}
-use Rattle.lexer.proofs.OriginLemmas.{length-origins}
+use Rattle.lexer.proofs.OriginLemmas.{length-origins, origin_in}
 use Rattle.line_shape.specs.declared.items.ItemKind.{ItemKind}
 use Rattle.line_shape.specs.declared.items.ItemKind.TheVariants as kind
 use Rattle.line_shape.specs.Items.{lines_of, line_kind}
@@ -40,7 +41,7 @@ use Rattle.analysis.proofs.NamingLemmas.{split_at, any_in}
 use Rattle.analysis.proofs.PlaceNameLemmas.{kept_number}
 use Rattle.rename_meaning.specs.Allowed.{IsAllowed}
 use Rattle.rename_meaning.specs.KeptLines.{UsesStayAlike, LineStaysAlike}
-use Rattle.edited_unit_laws.proofs.ListLemmas.{In, any_at}
+use Rattle.edited_unit_laws.proofs.ListLemmas.{In}
 use Rattle.rename_meaning.proofs.ApartLemmas.{any_member, free-stays, file_told, held_parted}
 use Rattle.rename_meaning.proofs.DirectiveLemmas.{none_in, in_drop, in_together, lines-together, taken_listed}
 use Rattle.edited_unit_laws.proofs.FileLemmas.{token_stands}
@@ -50,7 +51,7 @@ use Rattle.rename_meaning.proofs.MemberLemmas.{over_in}
 use Rattle.edited_unit_laws.proofs.TableTokenLemmas.{file_token, span_is}
 use Rattle.rename_meaning.proofs.NoneLemmas.{none_stand, no_line}
 use Rattle.rename_meaning.proofs.ProcessedLemmas.{taken_reached, taken_by, flat_element, part_in_token, member_lies}
-use Rattle.rename_meaning.proofs.SpellLemmas.{is_from, origin_in}
+use Rattle.rename_meaning.proofs.SpellLemmas.{is_from}
 use Rattle.edited_unit_laws.proofs.TracedLemmas.{source_of_kept}
 use Rattle.edited_unit_laws.proofs.AnalysedUnitLemmas.{unit_is, number_origin}
 use Rattle.rename_meaning.specs.ReachedLines.{LinesStayAlikeWhereNamed}

@@ -27,13 +27,14 @@ use Rattle.rename_meaning.specs.Allowed.{IsAllowed}
 use Rattle.rename_meaning.specs.Spellings.{IsPasted, IsOfFileOrName, OthersStayApart}
 use Rattle.edited_unit_laws.proofs.ListLemmas.{In, all_at, cons_nil, in_flat}
 use Rattle.rename_meaning.proofs.LinkLemmas.{IsWhole, pasted_whole, whole_chained}
-use Rattle.edited_unit_laws.proofs.TracedLemmas.{AreChained, spelled_fits}
+use Rattle.edited_unit_laws.proofs.TracedLemmas.{spelled_fits}
 use Rattle.edited_unit_laws.proofs.AnalysedUnitLemmas.{unit_is}
 use Rattle.edited_unit_laws.proofs.FileLemmas.{token_stands}
 use Rattle.rename_meaning.proofs.SpellLemmas.{is_from, spelled-kept}
 use Rattle.rename_meaning.proofs.NoneLemmas.{NoneStand, none_stand, holder, holders_alike, never_occurs}
 use Rattle.rename_meaning.proofs.MemberLemmas.{any_file_token}
 use Rattle.edited_unit_laws.proofs.TableTokenLemmas.{file_token}
+use Rattle.edited_unit_laws.proofs.ApartLemmas.{first_some}
 use Rattle.rename_meaning.proofs.KeptLemmas.{touched}
 
 -- ---- tokens that offences speak of
@@ -130,12 +131,6 @@ module _ (a : Analysed) (members : List Part) (name : List ℕ) (h : IsAllowed a
       }
 
 -- ---- pasted tokens
-
-first_some : (a : AnalysisValue) (os : List (Option Pos)) → AreChained a os → 1 ≤ length os
-    → option_map_or (λ p. p ∷ []) (option_and_then (λ (o : Option Pos). o) (slice_get os 0)) [] ≡ [] → ⊥
-first_some a [] chained some nothing = absurd (omega arith)
-first_some a (None ∷ os) chained some nothing = absurd chained
-first_some a (Some p ∷ os) chained some nothing = cons_nil p [] nothing
 
 fits_some : (k : Kind) (text : List ℕ) → is_identifier k ≡ true → fits k text ≡ true → 1 ≤ length text
 fits_some Ident [] h fit = absurd (cc)

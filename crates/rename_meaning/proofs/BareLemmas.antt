@@ -1,15 +1,18 @@
 -- A bare name that stands in the range of a typedef name of its spelling stays, and so do all tokens that are spelled so.
-use Rattle.std.proofs.Common.{◌≡◌, ℕ, ◌≤◌, ◌&&◌, Bool, true, false, not, List, [], ◌∷◌, length, map, Option, None, Some, inl, inr, refl, sym, ap, ◌∙◌, arith}
-use Rattle.std.specs.Prelude.{cond, slice_get, nat_le, nat_lt}
+use Rattle.std.proofs.Common.{◌≡◌, ℕ, ◌&&◌, Bool, true, false, not, List, [], ◌∷◌, map, Option, Some, inl, inr, sym, ap, ◌∙◌, arith}
+use Rattle.std.specs.Prelude.{slice_get, nat_le, nat_lt}
 use Rattle.std.specs.List.{flat_map, list_any}
-use Rattle.std.specs.Option.{option_and_then, option_map_or}
+use Rattle.std.specs.Option.{option_map_or}
 use Rattle.std.specs.Str.{bytes_eq}
 use Rattle.std.proofs.lemmas.Bool.{cases_Bool, both_ways, false≢true, and_parts, and_from, or_cases, or_left, or_right, ltb-false, le-leb}
 use Rattle.cs_base.proofs.FileMapLemmas.{bytes_eq-equal}
+use Rattle.cs_base.proofs.ListLemmas.{spelled_same as alike_from, any_at}
+use Rattle.cs_base.proofs.BoolLemmas.{and_right as second}
+use Rattle.cs_base.proofs.PlaceLemmas.{if_nil}
 use Rattle.cs_base.specs.declared.positions.Part.{Part}
-use Rattle.cs_base.specs.declared.positions.Pos.{Pos}
 use Rattle.cs_base.specs.Token.{Token}
 use Rattle.lexer.specs.Spelling.{is_identifier_text}
+use Rattle.lexer.proofs.NameLemmas.{some_text}
 use Rattle.line_shape.specs.Signs.{is_name}
 use Rattle.unit_steps.specs.Below.macro_expand.Renaming.{Renaming, renamed}
 use Rattle.unit_steps.specs.Below.macro_expand.Renaming as macros
@@ -17,7 +20,7 @@ use Rattle.analysis.specs.Below.c_types.declared.lists.Range.{Range}
 use Rattle.analysis.specs.Below.c_types.Declarations.{spelling_at, alike}
 use Rattle.renamed_tree_laws.specs.Loose.{is_hidden, StaysWhole}
 use Rattle.analysis.specs.Analysed.{Analysed}
-use Rattle.analysis.specs.Analysis.{UnitAnalysis, AnalysisValue}
+use Rattle.analysis.specs.Analysis.{UnitAnalysis}
 use Rattle.rename_rules.specs.Offences.{is_shadow, hides_typedef, bare_place, bare_places, shadowed_places}
 use Rattle.rename_rules.specs.Tokens.{holders, is_old_spelling}
 use Rattle.offences.specs.Tokens.{holds_member, first_place}
@@ -26,15 +29,15 @@ use Rattle.rename_meaning.specs.KeptTokens.{Spells}
 use Rattle.rename_meaning.specs.Renamings.{KeepsUnedited}
 use Rattle.rename_meaning.proofs.ApartLemmas.{parted_stays}
 use Rattle.rename_meaning.proofs.LinkLemmas.{whole_chained}
-use Rattle.edited_unit_laws.proofs.ListLemmas.{In, cons_nil, flat_nil, any_at}
+use Rattle.edited_unit_laws.proofs.ListLemmas.{In, flat_nil}
+use Rattle.edited_unit_laws.proofs.ApartLemmas.{first_some}
 use Rattle.rename_meaning.proofs.NoneLemmas.{NoneStand, none_stand, holder}
 use Rattle.rename_meaning.proofs.OccurringLemmas.{name_like, parted_one, like_spelled}
-use Rattle.edited_unit_laws.proofs.TracedLemmas.{AreChained}
 use Rattle.analysis.specs.Below.c99_grammar.Dialects.{edition}
 use Rattle.analysis.specs.Below.c99_grammar.Standard.{iso}
 use Rattle.analysis.specs.Below.c99_read.State.{base_at, is_identifier}
 use Rattle.rename_meaning.proofs.LinkedNameLemmas.{named_token}
-use Rattle.rename_meaning.proofs.NamedLemmas.{NameAt, OtherAt, alike_from, whole, old_identifier, old_at, new_at, look}
+use Rattle.rename_meaning.proofs.NamedLemmas.{NameAt, OtherAt, whole, old_identifier, old_at, new_at, look}
 use Rattle.rename_meaning.proofs.UnitTokenLemmas.{tokens_kept}
 
 -- ---- ranges, as the tree's law and the offence speak of them
@@ -63,24 +66,6 @@ module _ (toks : List Token) (text : List ℕ) (k : ℕ) (own : spelling_at toks
   ]
 
 -- ---- places of offences
-
-if_nil : (b : Bool) (xs : List Pos) → (xs ≡ [] → ⊥) → cond b xs [] ≡ [] → b ≡ false
-if_nil true xs some e = absurd (some e)
-if_nil false xs some e = refl
-
-second : (x y : Bool) → x ≡ true → (x && y) ≡ false → y ≡ false
-second true y h e = e
-second false y h e = absurd (cc)
-
-some_text : (text : List ℕ) → is_identifier_text text ≡ true → 1 ≤ length text
-some_text [] h = absurd (cc)
-some_text (c ∷ text) h = omega arith
-
-first_some : (a : AnalysisValue) (os : List (Option Pos)) → AreChained a os → 1 ≤ length os
-    → option_map_or (λ p. p ∷ []) (option_and_then (λ (o : Option Pos). o) (slice_get os 0)) [] ≡ [] → ⊥
-first_some a [] chained some nothing = absurd (omega arith)
-first_some a (None ∷ os) chained some nothing = absurd chained
-first_some a (Some p ∷ os) chained some nothing = cons_nil p [] nothing
 
 module _ (a : Analysed) (members : List Part) (name : List ℕ) (r : Renaming) (h : IsAllowed a members name) (spells : Spells members name r)
     (keeps : KeepsUnedited r) (u : UnitAnalysis) (i : In u a.value.units) where

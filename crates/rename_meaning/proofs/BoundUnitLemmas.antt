@@ -3,6 +3,7 @@ use Rattle.std.proofs.Common.{◌≡◌, ℕ, true, List, map, Option, Some, sym
 use Rattle.std.specs.Prelude.{slice_get}
 use Rattle.cs_base.specs.declared.positions.Part.{Part}
 use Rattle.cs_base.proofs.FileMapLemmas.{bytes_eq-equal}
+use Rattle.cs_base.proofs.ListLemmas.{spelled_same as alike_from}
 use Rattle.cs_base.specs.Token.{Token}
 use Rattle.line_shape.specs.Signs.{is_name}
 use Rattle.unit_steps.specs.Below.macro_expand.Renaming.{Renaming, renamed}
@@ -23,7 +24,7 @@ use Rattle.rename_meaning.proofs.RenamingLemmas.{renamings_spell}
 use Rattle.rename_meaning.proofs.UneditedLemmas.{renamings_keep_unedited}
 use Rattle.rename_meaning.specs.BoundUnits.{NamesBindAsBefore, UnitsAreRenamedWhole, UnitsBindAsBefore}
 use Rattle.rename_meaning.proofs.LinkedNameLemmas.{all_said, all_pass, bound_name, IsFirst, first_bound, first_entity, joined, names_linked}
-use Rattle.rename_meaning.proofs.NamedLemmas.{alike_from, each_spelled, old_at, new_at, words_kept, apart_kept, as_long}
+use Rattle.rename_meaning.proofs.NamedLemmas.{each_spelled, old_at, new_at, words_kept, apart_kept, as_long}
 use Rattle.rename_meaning.proofs.UnitNameLemmas.{name_token, name_entity, name_alike}
 use Rattle.edited_unit_laws.proofs.EditionLemmas.{read_by_edition, unit_is_read}
 

@@ -22,6 +22,7 @@ use Rattle.analysis.specs.Analysed.{Analysed}
 use Rattle.analysis.specs.Analysis.{UnitAnalysis, AnalysisValue}
 use Rattle.analysis.specs.Links.{is_bound_to, is_external_name, external_names_from, names_of_unit, names_of_units}
 use Rattle.analysis.proofs.NamingLemmas.{in_filter}
+use Rattle.analysis.proofs.FirstLemmas.{bound_same as bound_to}
 use Rattle.rename_meaning.specs.Allowed.{IsAllowed}
 use Rattle.rename_meaning.specs.KeptTokens.{Spells}
 use Rattle.rename_meaning.specs.Renamings.{KeepsUnedited}
@@ -32,7 +33,7 @@ use Rattle.rename_meaning.specs.KeptUnits.{change}
 use Rattle.rename_meaning.specs.KeptLinks.{RenamedNamesDenoteAlike}
 use Rattle.rename_meaning.proofs.BoundUnitLemmas.{name_together}
 use Rattle.rename_meaning.proofs.ExternalNameLemmas.{alike_both}
-use Rattle.rename_meaning.proofs.LinkedNameLemmas.{bound_name, bound_to}
+use Rattle.rename_meaning.proofs.LinkedNameLemmas.{bound_name}
 use Rattle.rename_meaning.proofs.LinksKeptLemmas.{with_first, apart, bound_token, spelled_there, projects_together, units}
 use Rattle.rename_meaning.proofs.UnitNameLemmas.{name_entity, name_alike}
 

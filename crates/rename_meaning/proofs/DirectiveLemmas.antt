@@ -3,9 +3,8 @@ use Rattle.std.proofs.Common.{◌≡◌, ℕ, zero, suc, ◌+◌, ◌-◌, ◌<�
 use Rattle.std.specs.Prelude.{◌⊎◌, slice_get, slice_range}
 use Rattle.std.specs.List.{flat_map}
 use Rattle.std.specs.Option.{option_map_or}
-use Rattle.std.specs.Str.{bytes_eq}
 use Rattle.std.proofs.Math.Seq.{take-append_seam, drop-append_seam}
-use Rattle.std.proofs.lemmas.Bool.{cases_Bool, both_ways, or_parts, false≢true}
+use Rattle.std.proofs.lemmas.Bool.{cases_Bool, both_ways, false≢true}
 use Rattle.std.proofs.lemmas.Option.{same_Some}
 use Rattle.cs_base.specs.declared.causes.Cause.{Cause}
 use Rattle.cs_base.specs.declared.positions.Pos.{Pos}
@@ -18,10 +17,11 @@ use Rattle.line_shape.specs.declared.items.Item.{Item}
 use Rattle.line_shape.specs.declared.items.ItemKind.{ItemKind}
 use Rattle.line_shape.specs.declared.items.ItemKind.TheVariants as kind
 use Rattle.line_shape.specs.declared.items.GnuLine.TheVariants as gnu
-use Rattle.line_shape.specs.Directives.{directives, meaning_in, directive_spelled, directive_named, is_run}
+use Rattle.line_shape.specs.Directives.{directive_named, is_run}
 use Rattle.line_shape.specs.Items.{onto_lines, lines_of, kind_unless, named_kind, directive_kind, line_kind, Piece, piece, onto_pieces, pieces_of, item_of, items_from, items_of}
 use Rattle.line_shape.specs.BadLines.{cause_on}
-use Rattle.line_shape.specs.Signs.{is_name, is_hash}
+use Rattle.line_shape.specs.Signs.{is_hash}
+use Rattle.line_shape.proofs.KindLemmas.{is_run-directive_kind as directive_runs, is_run-named_kind as kind_runs, is_run_in-directive_named as named_runs}
 use Rattle.source_files.specs.HeaderNames.{is_header, begins_header}
 use Rattle.include_tree.specs.Walk.{ItemText, item_text, item_texts}
 use Rattle.unit_laws.specs.UnitItems.{expanded_name, taken}
@@ -249,35 +249,6 @@ RunIn (Some k) = is_run k
 abbrev has_run : List (List ℕ × ItemKind) → Bool
 has_run [] = false
 has_run (row ∷ rows) = is_run row.1 || has_run rows
-
-meaning_runs : (rows : List (List ℕ × ItemKind)) (text : List ℕ) → has_run rows ≡ false → RunIn (meaning_in rows text) ≡ false
-meaning_runs [] text h = refl
-meaning_runs (row ∷ rows) text h =
-    let both = or_parts (is_run row.1) (has_run rows) h in
-    elim (cases_Bool (bytes_eq text row.0)) [
-      | inl found ↦ rw found both.0
-      | inr other ↦ rw other (meaning_runs rows text both.1)
-    ]
-
-named_runs : (word : Token) → RunIn (directive_named word) ≡ false
-unfolding directive_spelled
-named_runs word = elim (cases_Bool (is_name word)) [
-  | inl named ↦ rw named (meaning_runs directives word.text refl)
-  | inr other ↦ rw other refl
-]
-
-unless_runs : (c : Option Cause) (at : Pos) (k : ItemKind) → is_run k ≡ false → is_run (kind_unless c at k) ≡ false
-unless_runs None at k h = h
-unless_runs (Some c) at k h = refl
-
-kind_runs : (o : Option ItemKind) (at : Pos) (operands : List Token) → RunIn o ≡ false → is_run (named_kind o at operands) ≡ false
-kind_runs None at operands h = refl
-kind_runs (Some k) at operands h = unless_runs (cause_on k operands) at k h
-
-pub directive_runs : (at : Pos) (toks : List Token) → is_run (directive_kind at toks) ≡ false
-unfolding directive_kind
-directive_runs at [] = refl
-directive_runs at (word ∷ operands) = kind_runs (directive_named word) at operands (named_runs word)
 
 -- a line that is a run does not begin with `#`
 pub run_open : (line : List Token) → is_run (line_kind line) ≡ true → open_part line ≡ line

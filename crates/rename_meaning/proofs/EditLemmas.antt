@@ -1,25 +1,26 @@
 -- Files that hold members of a class against which nothing stands, and their edits.
-use Rattle.std.proofs.Common.{◌≡◌, ℕ, zero, suc, Bool, true, false, ◌||◌, ◌==◌, List, [], ◌∷◌, ◌++◌, Option, None, Some, length, refl, ap, sym, subst, ◌∙◌, inl, inr}
+use Rattle.std.proofs.Common.{◌≡◌, ℕ, zero, suc, true, false, ◌==◌, List, [], ◌∷◌, Option, None, Some, length, refl, ap, sym, ◌∙◌, inl, inr}
 use Rattle.std.specs.Prelude.{◌≢◌, slice_get}
 use Rattle.std.specs.List.{flat_map}
-use Rattle.std.specs.Option.{option_map, option_map_or, option_and_then}
+use Rattle.std.specs.Option.{option_map_or, option_and_then}
 use Rattle.std.specs.Str.{bytes_eq}
 use Rattle.std.proofs.lemmas.Bool.{cases_Bool, or_parts}
 use Rattle.std.proofs.lemmas.Option.{none-some, same_Some}
 use Rattle.cs_base.specs.declared.positions.Part.{Part}
 use Rattle.cs_base.specs.Edit.{Edit, edit}
 use Rattle.cs_base.proofs.FileMapLemmas.{bytes_eq-equal}
-use Rattle.source_files.specs.Files.{Source, Found, Lines, Absent, Unopened, Opened, Made, Table}
-use Rattle.source_files.specs.KeptFiles.{KeptValue, kept as kept_file, kept_at, kept_bytes, kept_in}
-use Rattle.source_files.specs.Tables.{IsFound, AreFound}
+use Rattle.source_files.specs.Files.{Source, Table}
+use Rattle.source_files.specs.KeptFiles.{KeptValue, kept_at, kept_in}
+use Rattle.source_files.specs.Tables.{AreFound}
 use Rattle.include_tree.specs.PseudoFiles.{is_pseudo}
 use Rattle.analysis.specs.Analysis.{AnalysisValue}
 use Rattle.analysis.specs.Places.{is_read_only_path}
-use Rattle.analysis.specs.Tables.{IsPseudoIfMade, MadeArePseudo}
+use Rattle.analysis.specs.Tables.{MadeArePseudo}
 use Rattle.offences.specs.First.{IsAmong}
 use Rattle.rename_rules.specs.Offences.{offences_of}
 use Rattle.rename_rules.specs.Runs.{edit_of, edits_of, file_of, new_bytes, runs}
 use Rattle.analysis.proofs.NamingLemmas.{split_at}
+use Rattle.analysis.proofs.TableLemmas.{entry_held}
 use Rattle.edited_unit_laws.proofs.ListLemmas.{In, in_flat}
 use Rattle.rename_meaning.proofs.NoneLemmas.{none_stand, writable}
 use Rattle.renamed.specs.Rename.{HoldsMembers}
@@ -38,19 +39,6 @@ real_file a members name m f clear i here =
     let file : option_map_or (λ (g : KeptValue). is_read_only_path a.workspace.readonly g.path) (kept_at a.table m.start.file) false ≡ false = (or_parts (m.start.file == 0) _ stays).1 in
     let path : is_read_only_path a.workspace.readonly f.path ≡ false = rw here at file in
     (or_parts (is_pseudo f.path) _ path).0
-
-not_both : (path : List ℕ) → is_pseudo path ≡ true → is_pseudo path ≡ false → ⊥
-not_both path made real = let e : true ≡ false = sym made ∙ real in cc
-
-entry_held : (source : Source) (number : ℕ) (path : List ℕ) (found : Found) (f : KeptValue) → IsFound source path found → IsPseudoIfMade path found
-    → is_pseudo f.path ≡ false → option_map (kept_file number path) (kept_bytes found) ≡ Some f → source f.path ≡ Some f.bytes
-entry_held source number path Lines f is made real at = absurd (none-some f at)
-entry_held source number path Absent f is made real at = absurd (none-some f at)
-entry_held source number path (Unopened bytes) f is made real at = absurd (none-some f at)
-entry_held source number path (Opened bytes) f is made real at =
-    subst (λ (g : KeptValue). source g.path ≡ Some g.bytes) (same_Some (kept_file number path bytes) f at) is
-entry_held source number path (Made bytes) f is made real at =
-    absurd (not_both path made (subst (λ (g : KeptValue). is_pseudo g.path ≡ false) (sym (same_Some (kept_file number path bytes) f at)) real))
 
 number_held : (source : Source) (t : Table) (k number : ℕ) (f : KeptValue) → AreFound source t → MadeArePseudo t → is_pseudo f.path ≡ false
     → option_and_then (kept_in number) (slice_get t k) ≡ Some f → source f.path ≡ Some f.bytes

@@ -7,6 +7,7 @@ use Rattle.std.proofs.lemmas.Bool.{cases_Bool}
 use Rattle.std.proofs.lemmas.List.{append-nil, append_assoc}
 use Rattle.std.proofs.lemmas.Option.{same_Some}
 use Rattle.cs_base.proofs.FileMapLemmas.{bytes_eq-equal}
+use Rattle.cs_base.proofs.ListLemmas.{spelled_same as alike_from, none_at as not_found}
 use Rattle.cs_base.specs.declared.tokens.Link.{Link}
 use Rattle.cs_base.specs.Token.{Token}
 use Rattle.unit_steps.specs.Below.macro_expand.Renaming.{Renaming, spelled}
@@ -16,8 +17,7 @@ use Rattle.edited_unit_laws.specs.Links.{SpelledAsBefore, KeepsNamesAfter}
 use Rattle.analysis.proofs.NamingLemmas.{split_at, in_left, in_right}
 use Rattle.rename_meaning.proofs.KeptTokenLemmas.{each_of}
 use Rattle.rename_meaning.proofs.LinkLemmas.{all_both, all_flat}
-use Rattle.edited_unit_laws.proofs.ListLemmas.{In, AllOf, all_at, found, not_found}
-use Rattle.rename_meaning.proofs.NamedLemmas.{alike_from}
+use Rattle.edited_unit_laws.proofs.ListLemmas.{In, AllOf, all_at, found}
 
 -- ---- lists
 

@@ -1,17 +1,18 @@
 -- The table of classes, moved, has the links of the renamed analysis.
-use Rattle.std.proofs.Common.{◌≡◌, ℕ, zero, suc, ◌+◌, ◌-◌, ◌<◌, ◌≤◌, ◌==◌, Bool, true, false, cond, if◌then◌else◌, List, [], ◌∷◌, ◌++◌, map, length, Option, None, Some, inl, inr, refl, sym, ap, subst, ◌∙◌, arith}
+use Rattle.std.proofs.Common.{◌≡◌, ℕ, zero, suc, ◌+◌, ◌<◌, ◌≤◌, Bool, true, cond, if◌then◌else◌, List, [], ◌∷◌, ◌++◌, length, Option, None, Some, inl, inr, refl, sym, ap, subst, ◌∙◌, arith}
 use Rattle.std.specs.Prelude.{slice_get, option_map, nat_eq, ◌&&◌}
 use Rattle.std.specs.Option.{option_map_or, option_and_then}
 use Rattle.std.specs.Str.{bytes_eq}
-use Rattle.std.proofs.lemmas.Bool.{cases_Bool, cases_eq, cases_lt, eq-eqb, ne_eqb, eqb-true, and_parts}
+use Rattle.std.proofs.lemmas.Bool.{cases_eq, cases_lt, eq-eqb, ne_eqb, and_parts}
 use Rattle.std.proofs.lemmas.Option.{none-some, same_Some, slice_get-map}
-use Rattle.cs_base.proofs.FileMapLemmas.{bytes_eq-equal}
 use Rattle.cs_base.specs.declared.positions.Part.{Part}
 use Rattle.cs_base.specs.declared.positions.Pos.{Pos}
 use Rattle.cs_base.specs.declared.tokens.Link.{Link}
 use Rattle.cs_base.specs.Token.{Token, origin_at}
+use Rattle.cs_base.proofs.ListLemmas.{front_at}
+use Rattle.cs_base.proofs.PlaceLemmas.{pos_is}
 use Rattle.analysis.specs.Below.eclass_map.Chain.{Chain, here, along as onward, back}
-use Rattle.analysis.specs.Below.eclass_map.ClassTable.{Table, Spot, label, class_in, Same, LinkedBy, AreLinks, HasParts}
+use Rattle.analysis.specs.Below.eclass_map.ClassTable.{Table, Spot, label, class_in, Same, LinkedBy, HasParts}
 use Rattle.analysis.specs.Below.eclass_map.Positions.{along, holds}
 use Rattle.analysis.specs.Below.eclass_map.Resized.{Resizes, moved_to, moved_part}
 use Rattle.analysis.proofs.Below.eclass_map.TokenFacts.{holds_from}
@@ -19,7 +20,7 @@ use Rattle.line_shape.specs.Signs.{is_name}
 use Rattle.lexer.specs.Logical.{logical_of, spelling}
 use Rattle.lexer.specs.Places.{pos, origins_from}
 use Rattle.lexer.specs.Respelling.{moved}
-use Rattle.part_respell.specs.Respelled.{member_over, put_in, put_at, put_of, put_for}
+use Rattle.part_respell.specs.Respelled.{put_in, put_at, put_of, put_for}
 use Rattle.source_files.specs.KeptFiles.{KeptValue}
 use Rattle.unit_steps.specs.Below.macro_expand.Renaming.{Renaming, renamed}
 use Rattle.edited_unit_laws.specs.Analyses.{renamed_analysis}
@@ -27,7 +28,7 @@ use Rattle.edited_unit_laws.specs.UnitTexts.{renamed_link}
 use Rattle.renamed.specs.Renamed.{moved_in, move_to, trace_from, origins_for}
 use Rattle.analysis.specs.Analysed.{Analysed}
 use Rattle.analysis.specs.Analysis.{UnitAnalysis, AnalysisValue}
-use Rattle.analysis.specs.Links.{links_of, linked_pairs, pair_of, are_alike}
+use Rattle.analysis.specs.Links.{links_of, linked_pairs, pair_of}
 use Rattle.analysis.specs.Parts.{IsPart}
 use Rattle.analysis.proofs.ClassLemmas.{part_told, character_told}
 use Rattle.offences.proofs.ClassLemmas.{over_member, over_other}
@@ -35,23 +36,16 @@ use Rattle.rename_meaning.specs.Allowed.{IsAllowed}
 use Rattle.rename_meaning.proofs.AlikeLemmas.{AreSameAt, chained_alike}
 use Rattle.rename_meaning.proofs.LinkLemmas.{IsWhole, Both, links_have, toks_whole, links_whole, whole_chained}
 use Rattle.edited_unit_laws.proofs.ListLemmas.{In, AllOf}
-use Rattle.rename_meaning.proofs.SpellLemmas.{PutAlike}
-use Rattle.edited_unit_laws.proofs.TracedLemmas.{Traced}
 use Rattle.edited_unit_laws.proofs.AnalysedUnitLemmas.{unit_is}
 use Rattle.rename_meaning.specs.KeptUnits.{change}
 use Rattle.rename_meaning.specs.OneMove.{ClassesFollow}
 use Rattle.rename_meaning.proofs.FollowTokenLemmas.{size, put_size, sizes, moves_on, line_still, file_tokens_follow}
 use Rattle.rename_meaning.proofs.LinksKeptLemmas.{links_are_renamed_where_allowed}
-use Rattle.rename_meaning.proofs.MovedLabelLemmas.{spot, InPart, in_part, first_label, FromPart, from_part, label_kept, label_member}
-use Rattle.rename_meaning.proofs.OneMoveLemmas.{InText, in_text, part_moves}
-use Rattle.rename_meaning.proofs.SameElementLemmas.{mapped_at, pos_is}
+use Rattle.rename_meaning.proofs.MovedLabelLemmas.{spot, InPart, in_part, first_label, from_part, label_kept, label_member}
+use Rattle.rename_meaning.proofs.OneMoveLemmas.{in_text, part_moves}
+use Rattle.rename_meaning.proofs.SameElementLemmas.{mapped_at}
 
 -- ---- lists
-
-front_at : {X : Type 0} (xs ys : List X) (k : ℕ) (x : X) → slice_get xs k ≡ Some x → slice_get (xs ++ ys) k ≡ Some x
-front_at [] ys k x at = absurd (none-some x at)
-front_at (z ∷ xs) ys zero x at = at
-front_at (z ∷ xs) ys (suc k) x at = front_at xs ys k x at
 
 behind_at : {X : Type 0} (xs ys : List X) (k : ℕ) (x : X) → slice_get ys k ≡ Some x → slice_get (xs ++ ys) (length xs + k) ≡ Some x
 behind_at [] ys k x at = let none : 0 + k ≡ k = omega arith in ap (slice_get ys) none ∙ at

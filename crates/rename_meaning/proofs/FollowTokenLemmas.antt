@@ -1,5 +1,5 @@
 -- File tokens of the renamed analysis stand where the table of classes puts them.
-use Rattle.std.proofs.Common.{◌≡◌, ℕ, zero, suc, ◌+◌, ◌-◌, ◌<◌, ◌≤◌, Bool, true, false, List, [], ◌∷◌, ◌++◌, if◌then◌else◌, map, take, length, Option, None, Some, ◌⊎◌, inl, inr, refl, sym, ap, subst, ◌∙◌, arith, length-append}
+use Rattle.std.proofs.Common.{◌≡◌, ℕ, zero, suc, ◌+◌, ◌-◌, ◌<◌, ◌≤◌, Bool, List, [], ◌∷◌, ◌++◌, if◌then◌else◌, map, take, length, Option, None, Some, inl, inr, refl, sym, ap, subst, ◌∙◌, arith, length-append}
 use Rattle.std.specs.Prelude.{slice_get, unwrap_or, option_map}
 use Rattle.std.specs.Option.{option_map_or, option_and_then}
 use Rattle.std.proofs.lemmas.Bool.{eq-eqb}
@@ -7,13 +7,14 @@ use Rattle.std.proofs.lemmas.Option.{none-some, same_Some, slice_get-map}
 use Rattle.cs_base.specs.declared.positions.Part.{Part}
 use Rattle.cs_base.specs.declared.positions.Pos.{Pos}
 use Rattle.cs_base.specs.Token.{Token}
+use Rattle.cs_base.proofs.PlaceLemmas.{pos_is}
 use Rattle.analysis.specs.Below.eclass_map.ClassTable.{Table, IsAdded, added_tokens}
 use Rattle.analysis.specs.Below.eclass_map.Positions.{end_of, holds}
 use Rattle.analysis.specs.Below.eclass_map.Resized.{Resizes, moved_to, moved_token}
 use Rattle.lexer.specs.Logical.{logical_of, spelling}
 use Rattle.lexer.specs.Places.{pos, origins_from}
 use Rattle.lexer.specs.Respelling.{respell, moved}
-use Rattle.lexer.specs.Spelling.{is_identifier_text}
+use Rattle.lexer.proofs.NameLemmas.{name_some as some_name}
 use Rattle.part_respell.specs.Respelled.{member_over, put_in, put_at, put_of}
 use Rattle.source_files.specs.KeptFiles.{KeptValue, kept_at}
 use Rattle.analysis.specs.Analysed.{Analysed}
@@ -35,7 +36,7 @@ use Rattle.rename_meaning.specs.KeptUnits.{change}
 use Rattle.rename_meaning.specs.OneMove.{TokensAreMoved, FileTokensFollow}
 use Rattle.rename_meaning.proofs.OneMoveLemmas.{InKept, IsNumber, kept_or_number, span_moves}
 use Rattle.rename_meaning.proofs.KeptFileTokenLemmas.{file_tokens_are_renamed_where_named}
-use Rattle.rename_meaning.proofs.SameElementLemmas.{mapped_at, pos_is}
+use Rattle.rename_meaning.proofs.SameElementLemmas.{mapped_at}
 
 -- ---- what is put for characters, by how much it is
 
@@ -149,10 +150,6 @@ module _ (a : AnalysisValue) (members : List Part) (name : List ℕ) where
       ap (λ (o : Option (Option Pos)). unwrap_or (option_and_then (λ (x : Option Pos). x) o) (pos 0 0))
       (first_origin p.file (move_to a members name p).at (length (put_at members name p c)) (trace_from a members name os text) (omega (arith, same, one)))
       ∙ pos_is (pos p.file (move_to a members name p).at) p refl (ap (λ (q : Pos). q.at) move)
-
-some_name : (name : List ℕ) → is_identifier_text name ≡ true → 0 < length name
-some_name [] e = absurd (cc)
-some_name (c ∷ cs) e = omega arith
 
 module _ (a : Analysed) (members : List Part) (name : List ℕ) (h : IsAllowed a members name) where
   abbrev IsMoved : Token → Type 0

@@ -1,12 +1,15 @@
 -- What no step undoes is true of the table of an analysis: it is what its source holds, and no file that was opened is a
 -- pseudo file.
-use Rattle.std.proofs.Common.{◌≡◌, ℕ, ◌+◌, ◌-◌, ◌&&◌, not, Bool, true, false, cond, is_some, List, [], ◌∷◌, Option, Some, None, Ok, Err, inl, inr, subst, ◌∙◌, ap, arith}
+use Rattle.std.proofs.Common.{◌≡◌, ℕ, ◌+◌, ◌-◌, Bool, true, false, cond, is_some, List, [], ◌∷◌, Option, Some, None, Ok, Err, inl, inr, subst, ◌∙◌, ap}
 use Rattle.std.specs.Prelude.{All}
 use Rattle.std.specs.Str.{bytes_eq}
 use Rattle.std.proofs.lemmas.Bool.{cases_Bool}
 use Rattle.std.proofs.lemmas.List.Elements.{All-head, All-tail}
 use Rattle.std.proofs.lemmas.Option.{same_Some}
 use Rattle.cs_base.proofs.FileMapLemmas.{bytes_eq-equal}
+use Rattle.cs_base.proofs.OptionLemmas.{ok_same}
+use Rattle.cs_base.proofs.BoolLemmas.{and_not-false as not_pseudo}
+use Rattle.cs_base.proofs.AnswerLemmas.{map_err_ok as unmapped}
 use Rattle.cs_base.specs.Token.{Token}
 use Rattle.cs_base.specs.Units.{UnitValue, IsUnit, defines_of}
 use Rattle.lexer.specs.FileText.{file_text}
@@ -29,7 +32,7 @@ use Rattle.include_tree.proofs.StayingWalk.{files_stay}
 use Rattle.source_files.proofs.TableLemmas.{widens_asked, widens_opened}
 use Rattle.analysis.specs.Analysis.{UnitsValue, AnalysisValue, analysis_and, with_unit, unit_read, analysed_from, analysis_of}
 use Rattle.analysis.specs.Texts.{UnitFault, unit_fault, unit_with}
-use Rattle.edited_unit_laws.proofs.AnalysedUnitLemmas.{done_first, unmapped, ok_same}
+use Rattle.edited_unit_laws.proofs.AnalysedUnitLemmas.{done_first}
 
 -- ---- all units
 
@@ -64,7 +67,7 @@ module _ (source : Source) (J : Table → Type 0) (K : List ℕ → Type 0) (rul
 
   after_by : (before : Carried) (o : Outcome (List Token)) (p : Preprocessed) → IfDone (Stays {A = List Token} J) o → preprocessed_by before.toks o ≡ Ok p → J p.after.table
   after_by before (Ok d) p h e =
-      let same = ok_same {E = Fault} _ p e in
+      let same = ok_same {D = Fault} _ p e in
       let P : Preprocessed → Type 0 = λ q. J q.after.table in
       subst P same h
   after_by before (Err found) p h e = absurd (cc)
@@ -77,7 +80,7 @@ module _ (source : Source) (J : Table → Type 0) (K : List ℕ → Type 0) (rul
   after_units : (number : ℕ) (units : List UnitValue) (before : Carried) (v : UnitsValue) → AllPaths K units → J before.table → analysed_from source number units before ≡ Ok v → J v.table
   unfolding analysed_from
   after_units number [] before v own h e =
-      let same = ok_same {E = UnitFault} _ v e in
+      let same = ok_same {D = UnitFault} _ v e in
       let P : UnitsValue → Type 0 = λ w. J w.table in
       subst P same h
   after_units number (unit ∷ units) before v own h e =
@@ -86,14 +89,14 @@ module _ (source : Source) (J : Table → Type 0) (K : List ℕ → Type 0) (rul
       let later = done_first (analysed_from source (number + 1) units p.0.after) _ v u.2 in
       let is_text = unmapped (preprocessed source number unit before) (unit_fault number) p.0 p.1 in
       let rest = after_units (number + 1) units p.0.after later.0 own.1 (after_unit number unit before p.0 own.0 h is_text) later.1 in
-      let same = ok_same {E = UnitFault} (with_unit u.0 later.0) v later.2 in
+      let same = ok_same {D = UnitFault} (with_unit u.0 later.0) v later.2 in
       let P : UnitsValue → Type 0 = λ w. J w.table in
       subst P same rest
 
   analysis_stays : (ws : WorkspaceValue) (a : AnalysisValue) → AllPaths K ws.units → J nothing_carried.table → analysis_of source ws ≡ Ok a → J a.table
   analysis_stays ws a own h e =
       let all = done_first (analysed_from source 1 ws.units nothing_carried) _ a e in
-      let same = ok_same {E = UnitFault} (analysis_and ws all.0.units all.0.table) a all.2 in
+      let same = ok_same {D = UnitFault} (analysis_and ws all.0.units all.0.table) a all.2 in
       let P : AnalysisValue → Type 0 = λ b. J b.table in
       subst P same (after_units 1 ws.units nothing_carried all.0 own h all.1)
 
@@ -172,9 +175,6 @@ real_rules source = record {
   made = λ t path bytes h. real_push t path (Made bytes) tt h;
   main = λ t path own h. real_asked path (source path) t (is_some (found_at path t)) own h;
 }
-
-not_pseudo : (a b : Bool) → (a && not b) ≡ true → b ≡ false
-not_pseudo a b h = grind (arith, h)
 
 real_paths : (units : List UnitValue) → All IsUnit units → AllPaths IsRealPath units
 real_paths [] are = tt

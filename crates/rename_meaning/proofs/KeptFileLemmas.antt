@@ -13,10 +13,12 @@ use Rattle.lexer.specs.Logical.{gone_length}
 use Rattle.lexer.specs.Places.{pos}
 use Rattle.lexer.specs.Respelling.{Put, edited_from as bytes_edited, edited}
 use Rattle.lexer.specs.Tokens.{tokens_of, firsts_of}
+use Rattle.lexer.proofs.OrderLemmas.{few_bytes as text_small}
 use Rattle.line_shape.specs.Items.{lines_of}
 use Rattle.source_files.specs.Files.{Source, SourceFile, source_file, Found, Lines, Absent, Unopened, Opened, Made, Entry, entry, Table}
 use Rattle.source_files.specs.KeptFiles.{KeptValue, kept, kept_in, kept_at}
 use Rattle.source_files.specs.Sources.{read_as, source_kept, source_at}
+use Rattle.source_files.proofs.KeptLemmas.{read-text as read_text}
 use Rattle.unit_steps.specs.Texts.{UnitTextValue, text_of}
 use Rattle.include_tree.specs.PseudoFiles.{is_pseudo}
 use Rattle.analysis.specs.Below.eclass_map.Positions.{holds}
@@ -124,11 +126,6 @@ source_named table n file k e is =
     let read : read_as k.number k.path (file_text k.number k.bytes) ≡ Some file = ap (option_and_then source_kept) (sym is) ∙ e in
     file_named k.number k.path (file_text k.number k.bytes) file read
 
--- a source file has the text of its bytes, which are not too many
-read_text : (number : ℕ) (path : List ℕ) (r : Result TextValue LexFault) (file : SourceFile) → read_as number path r ≡ Some file → r ≡ Ok file.text
-read_text number path (Ok text) file e = ap (λ (f : SourceFile). Ok f.text) (same_Some (source_file number path text) file e)
-read_text number path (Err fault) file e = absurd (none-some file e)
-
 source_text : (table : Table) (n : ℕ) (file : SourceFile) (bytes : List ℕ) → kept_at table n ≡ Some (kept n file.path bytes) → source_at table n ≡ Some file → file_text n bytes ≡ Ok file.text
 source_text table n file bytes is e = read_text n file.path (file_text n bytes) file (ap (option_and_then source_kept) (sym is) ∙ e)
 
@@ -138,10 +135,6 @@ cond_small n bytes text r false is e = elim (cases_lt most_bytes (length bytes))
   | inl more ↦ absurd (both_ways (nat_lt most_bytes (length bytes)) is (lt-ltb most_bytes (length bytes) more))
   | inr within ↦ within
 ]
-
-text_small : (n : ℕ) (bytes : List ℕ) (text : TextValue) → file_text n bytes ≡ Ok text → length bytes ≤ most_bytes
-unfolding file_text
-text_small n bytes text e = cond_small n bytes text _ (nat_lt most_bytes (length bytes)) refl e
 
 -- nothing is told of a text but its names, which are not asked for
 abbrev pub no_text : UnitTextValue

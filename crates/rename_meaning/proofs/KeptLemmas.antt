@@ -1,24 +1,24 @@
 -- Each kept file keeps its pieces.
-use Rattle.std.proofs.Common.{◌≡◌, ℕ, ◌+◌, ◌-◌, ◌<◌, ◌&&◌, ◌||◌, not, nat_le, nat_lt, true, false, codes, List, [], ◌∷◌, length, Option, None, Some, inl, inr, refl, sym, ap, subst, ◌∙◌, arith}
+use Rattle.std.proofs.Common.{◌≡◌, ℕ, ◌+◌, ◌<◌, ◌&&◌, ◌||◌, not, nat_le, nat_lt, true, false, codes, List, [], ◌∷◌, length, Option, None, Some, inl, inr, refl, sym, ap, subst, ◌∙◌, arith}
 use Rattle.std.specs.Prelude.{slice_get}
 use Rattle.std.specs.List.{list_any}
 use Rattle.std.specs.Str.{bytes_eq}
 use Rattle.std.proofs.lemmas.Bool.{cases_Bool, both_ways, and_from, le-leb, lt-ltb, or_left, or_right}
 use Rattle.std.proofs.lemmas.Option.{same_Some}
 use Rattle.cs_base.proofs.FileMapLemmas.{bytes_eq-equal}
+use Rattle.cs_base.proofs.ListLemmas.{any_at}
 use Rattle.cs_base.specs.declared.positions.Part.{Part}
 use Rattle.cs_base.specs.declared.positions.Pos.{Pos}
 use Rattle.cs_base.specs.Reserved.{is_reserved_text}
 use Rattle.cs_base.specs.Token.{Token, has_origins}
-use Rattle.cs_base.specs.declared.tokens.Kind.{Kind}
-use Rattle.cs_base.specs.declared.tokens.Kind.TheVariants.{Ident}
 use Rattle.lexer.specs.Places.{pos}
 use Rattle.lexer.specs.Respelling.{Put, respell, stays}
 use Rattle.lexer.specs.KeptTokens.{lies_in, ChangesTokens}
 use Rattle.lexer.specs.Tokens.{tokens_of, firsts_of}
 use Rattle.lexer.proofs.KeptTokensLaw.{kept_tokens_keep_pieces}
 use Rattle.line_shape.specs.Items.{lines_of}
-use Rattle.line_shape.specs.Signs.{is_identifier, is_name}
+use Rattle.line_shape.specs.Signs.{is_name}
+use Rattle.line_shape.proofs.SignLemmas.{name_kept as named_parted}
 use Rattle.analysis.specs.Below.eclass_map.Positions.{holds}
 use Rattle.analysis.specs.Below.eclass_map.ClassTable.{part_of_file}
 use Rattle.analysis.proofs.Below.eclass_map.TokenFacts.{holding, holds_along}
@@ -37,7 +37,7 @@ use Rattle.edited_unit_laws.specs.Lines.{Each}
 use Rattle.edited_unit_laws.proofs.EditedTokenLemmas.{respell-spelled}
 use Rattle.rename_meaning.specs.Allowed.{IsAllowed}
 use Rattle.rename_meaning.specs.KeptFiles.{WordIsFree, FilesKeepPieces}
-use Rattle.edited_unit_laws.proofs.ListLemmas.{In, AllOf, all_of, any_at}
+use Rattle.edited_unit_laws.proofs.ListLemmas.{In, AllOf, all_of}
 use Rattle.edited_unit_laws.proofs.FileLemmas.{token_stands, name_spelled, hash_spelled}
 use Rattle.rename_meaning.proofs.PutLemmas.{BeginsAt, HoldsNone, put-stays, none-stays, names-stand}
 use Rattle.rename_meaning.proofs.SpellLemmas.{is_from, none_from, from_member}
@@ -61,10 +61,6 @@ not_l text free = elim (cases_Bool (bytes_eq text (codes "L"))) [
 pub nothing : (o : Option Part) → ((m : Part) → o ≡ Some m → ⊥) → o ≡ None
 nothing None h = refl
 nothing (Some m) h = absurd (h m refl)
-
-pub named_parted : (k : Kind) → is_identifier k ≡ true → has_origins k ≡ true
-named_parted Ident h = refl
-named_parted _ h = absurd (cc)
 
 -- What is known of a kept file.
 module _ (a : Analysed) (members : List Part) (name : List ℕ) (h : IsAllowed a members name) (n : ℕ) (f : KeptValue) (is : kept_at a.value.table n ≡ Some f) where

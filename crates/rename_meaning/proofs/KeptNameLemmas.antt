@@ -7,6 +7,7 @@ use Rattle.std.specs.Str.{bytes_eq}
 use Rattle.std.proofs.lemmas.Bool.{cases_Bool, both_ways, and_from, or_cases}
 use Rattle.std.proofs.lemmas.Option.{none-some}
 use Rattle.cs_base.proofs.FileMapLemmas.{bytes_eq-equal, bytes_eq-same}
+use Rattle.cs_base.proofs.ListLemmas.{none_at as not_found}
 use Rattle.cs_base.specs.declared.positions.Part.{Part}
 use Rattle.cs_base.specs.declared.tokens.Kind.{Kind}
 use Rattle.cs_base.specs.declared.tokens.Kind.TheVariants.{Ident, Number, Char, Str, Punct, Header, Other}
@@ -32,7 +33,7 @@ use Rattle.offences.specs.Tokens.{holds_member}
 use Rattle.rename_meaning.specs.Allowed.{IsAllowed}
 use Rattle.rename_meaning.specs.KeptTokens.{Spells}
 use Rattle.rename_meaning.specs.Renamings.{name_in, names_told, renaming}
-use Rattle.edited_unit_laws.proofs.ListLemmas.{In, found, not_found, in_flat}
+use Rattle.edited_unit_laws.proofs.ListLemmas.{In, found, in_flat}
 use Rattle.rename_meaning.proofs.ApartLemmas.{parted_stays}
 use Rattle.rename_meaning.proofs.LinkLemmas.{linked_stay_alike}
 use Rattle.rename_meaning.proofs.NoneLemmas.{none_stand, holder, holder_free}

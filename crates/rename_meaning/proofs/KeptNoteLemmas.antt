@@ -9,6 +9,7 @@ use Rattle.cs_base.specs.declared.positions.Pos.{Pos}
 use Rattle.cs_base.specs.Token.{Token, origin_at}
 use Rattle.lexer.specs.Places.{pos, origins_from}
 use Rattle.lexer.specs.Spelling.{is_identifier_text}
+use Rattle.lexer.proofs.NameLemmas.{name_some as some_text}
 use Rattle.line_shape.specs.Signs.{is_name}
 use Rattle.macro_body.specs.Notes as expansion
 use Rattle.unit_steps.specs.Below.macro_expand.Renaming.{renamed}
@@ -68,10 +69,6 @@ move_file members name p (Some f) = refl
 some_first : (file at n : ℕ) (os : List (Option Pos)) → 0 < n → slice_get (origins_from file at n ++ os) 0 ≡ Some (Some (pos file at))
 some_first file at zero os some = absurd (omega (arith, some))
 some_first file at (suc n) os some = refl
-
-some_text : (text : List ℕ) → is_identifier_text text ≡ true → 0 < length text
-some_text [] h = absurd (cc)
-some_text (c ∷ cs) h = omega arith
 
 module _ (a : AnalysisValue) (members : List Part) (name : List ℕ) (named : is_identifier_text name ≡ true) where
   put_some : (p : Pos) (c : ℕ) (o : Option Part) → ((m : Part) → o ≡ Some m → m.start.at ≡ p.at) → 0 < length (option_map_or (put_in name p) o (c ∷ []))

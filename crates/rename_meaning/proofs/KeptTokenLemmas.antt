@@ -33,6 +33,14 @@ va_opt_reserved : is_reserved_text (codes "__VA_OPT__") ≡ true
 unfolding is_reserved_text
 va_opt_reserved = refl
 
+header_reserved : is_reserved_text (codes "__has_include") ≡ true
+unfolding is_reserved_text
+header_reserved = refl
+
+next_reserved : is_reserved_text (codes "__has_include_next") ≡ true
+unfolding is_reserved_text
+next_reserved = refl
+
 -- a text that is not reserved is none that is
 pub other_word : (word text : List ℕ) → is_reserved_text word ≡ true → is_reserved_text text ≡ false → bytes_eq text word ≡ false
 other_word word text reserved free =
@@ -75,6 +83,8 @@ module _ (a : Analysed) (members : List Part) (name : List ℕ) (r : Renaming) (
     asks = word-back (is_identifier t.kind) (bytes_eq (macros.spelled r t) (codes "defined")) (bytes_eq t.text (codes "defined")) (reserved_kept (codes "defined") t defined_reserved told);
     rest = word-back (is_identifier t.kind) (bytes_eq (macros.spelled r t) (codes "__VA_ARGS__")) (bytes_eq t.text (codes "__VA_ARGS__")) (reserved_kept (codes "__VA_ARGS__") t va_args_reserved told);
     opts = word-back (is_identifier t.kind) (bytes_eq (macros.spelled r t) (codes "__VA_OPT__")) (bytes_eq t.text (codes "__VA_OPT__")) (reserved_kept (codes "__VA_OPT__") t va_opt_reserved told);
+    header = word-back (is_identifier t.kind) (bytes_eq (macros.spelled r t) (codes "__has_include")) (bytes_eq t.text (codes "__has_include")) (reserved_kept (codes "__has_include") t header_reserved told);
+    next = word-back (is_identifier t.kind) (bytes_eq (macros.spelled r t) (codes "__has_include_next")) (bytes_eq t.text (codes "__has_include_next")) (reserved_kept (codes "__has_include_next") t next_reserved told);
   }
 
 -- a fact of each element, in the words of laws of texts

@@ -4,6 +4,8 @@ use Rattle.std.specs.Prelude.{slice_get}
 use Rattle.cs_base.specs.declared.positions.Part.{Part}
 use Rattle.cs_base.specs.Token.{Token}
 use Rattle.cs_base.specs.Units.{UnitValue}
+use Rattle.cs_base.proofs.OptionLemmas.{ok_same}
+use Rattle.cs_base.proofs.AnswerLemmas.{map_err_ok as unmapped}
 use Rattle.lexer.specs.FileText.{file_text}
 use Rattle.source_files.specs.Faults.{Fault}
 use Rattle.source_files.specs.Files.{Source, Table, Carried, carried, nothing_carried}
@@ -30,7 +32,7 @@ use Rattle.rename_meaning.specs.KeptLines.{LinesStayAlike}
 use Rattle.rename_meaning.specs.MadeTokens.{IsOutcome}
 use Rattle.edited_unit_laws.proofs.ListLemmas.{In}
 use Rattle.rename_meaning.proofs.ProcessedLemmas.{words_are_free_where_named}
-use Rattle.edited_unit_laws.proofs.AnalysedUnitLemmas.{done_first, unmapped, ok_same, bound_text, units_are}
+use Rattle.edited_unit_laws.proofs.AnalysedUnitLemmas.{done_first, bound_text, units_are}
 use Rattle.rename_meaning.specs.KeptUnits.{change, change_by, names_in, macro_names, UnitsAreKept, TextsAreRenamedWhereNamed, AnalysisIsRenamedWhereNamed}
 use Rattle.rename_meaning.specs.Limits.{AreWithinLimits}
 use Rattle.rename_meaning.proofs.AlikeLineLemmas.{lines_stay_alike_where_named}
@@ -45,7 +47,7 @@ given before d = record { text = unit_text d.value d.notes; after = carried d.st
 unit_gives : (source : Source) (number : ℕ) (unit : UnitValue) (before : Carried) (p : Preprocessed) (d : Did (List Token)) → preprocessed source number unit before ≡ Ok p
     → unit_outcome the_limits file_text source number unit before ≡ Ok d → given before d ≡ p
 unfolding preprocessed
-unit_gives source number unit before p d e is = ok_same {E = Fault} (given before d) p (sym (ap (preprocessed_by before.toks) is) ∙ e)
+unit_gives source number unit before p d e is = ok_same {D = Fault} (given before d) p (sym (ap (preprocessed_by before.toks) is) ∙ e)
 
 -- what is kept of a unit, with these new spellings of the names of macros
 abbrev KeepsOne : AnalysisValue → List Part → List ℕ → Source → Did (List Token) → Option UnitAnalysis → Type 0
@@ -71,7 +73,7 @@ module _ (a : Analysed) (members : List Part) (name : List ℕ) (h : IsAllowed a
       let is_text = unmapped (preprocessed source number unit before) (unit_fault number) p.0 p.1 in
       let is_read = unmapped (read_unit unit.standard p.0.after.table unit.path p.0.text) (unit_fault number) u r.1 in
       let gives = unit_gives source number unit before p.0 d is_text is in
-      let same = ok_same {E = UnitFault} (with_unit u later.0) v later.2 in
+      let same = ok_same {D = UnitFault} (with_unit u later.0) v later.2 in
       let grows = (units_are source (number + 1) units p.0.after later.0 later.1).0 in
       let table : later.0.table ≡ v.table = ap (λ (w : UnitsValue). w.table) same in
       let rest : IsGrown later.0.table a.value.table = subst (λ (t : Table). IsGrown t a.value.table) (sym table) grown in
@@ -103,7 +105,7 @@ pub units_are_kept : UnitsAreKept
 units_are_kept = λ a members name h words uses limits new holds.
     let all = done_first (analysed_from h.source 1 h.workspace.units nothing_carried) _ a.value h.accepted in
     let v : UnitsValue = all.0 in
-    let same = ok_same {E = UnitFault} (analysis_and h.workspace v.units v.table) a.value all.2 in
+    let same = ok_same {D = UnitFault} (analysis_and h.workspace v.units v.table) a.value all.2 in
     let grown : IsGrown v.table a.value.table = subst (λ (b : AnalysisValue). IsGrown v.table b.table) same (grown_refl v.table) in
     kept_from a members name h words uses limits new holds 1 h.workspace.units nothing_carried v (omega arith) all.1 grown
     (λ k u at.
@@ -117,7 +119,7 @@ texts_are_renamed_where_named = λ a members name path line column h workspace o
     let uses = lines_stay_alike_where_named a members name path line column h named in
     let all = done_first (analysed_from h.source 1 h.workspace.units nothing_carried) _ a.value h.accepted in
     let v : UnitsValue = all.0 in
-    let same = ok_same {E = UnitFault} (analysis_and h.workspace v.units v.table) a.value all.2 in
+    let same = ok_same {D = UnitFault} (analysis_and h.workspace v.units v.table) a.value all.2 in
     let texts = (analyses_have_texts h.source 1 h.workspace.units nothing_carried v all.1).0 in
     let own : texts_of h.source h.workspace.units ≡ Ok (texts_and (texts_in a.value.units) a.value.table) =
     texts ∙ ap (λ (b : AnalysisValue). Ok (texts_and (texts_in b.units) b.table)) same in

@@ -1,13 +1,14 @@
 -- All names of an entity are linked with its first occurrence in the unit.
-use Rattle.std.proofs.Common.{◌≡◌, ℕ, zero, suc, ◌+◌, ◌==◌, ◌&&◌, not, if◌then◌else◌, Bool, true, false, List, [], ◌∷◌, ◌++◌, length, reverse, Option, None, Some, inl, inr, refl, sym, ap, subst, ◌∙◌, arith}
+use Rattle.std.proofs.Common.{◌≡◌, ℕ, zero, suc, ◌+◌, ◌==◌, ◌&&◌, if◌then◌else◌, Bool, true, false, List, [], ◌∷◌, ◌++◌, length, reverse, Option, None, Some, inl, inr, refl, sym, ap, subst, ◌∙◌, arith}
 use mathlib.Core.List.{reverse-cons}
 use Rattle.std.specs.Prelude.{slice_get, find, option_map}
 use Rattle.std.specs.List.{flat_map, list_all, All}
 use Rattle.std.specs.Option.{option_map_or}
 use Rattle.std.specs.Str.{bytes_eq}
-use Rattle.std.proofs.lemmas.Bool.{cases_Bool, both_ways, and_parts, and_from, eqb-true, eq-eqb}
+use Rattle.std.proofs.lemmas.Bool.{cases_Bool, both_ways, and_from, eqb-true}
 use Rattle.std.proofs.lemmas.List.Elements.{All-nil, All-cons, All-head, All-tail}
 use Rattle.std.proofs.lemmas.Option.{same_Some}
+use Rattle.tree_laws.proofs.Below.c99_read.ReadLemmas.{sign_class}
 use Rattle.analysis.specs.Below.c99_grammar.declared.dialects.Edition.{Edition}
 use Rattle.cs_base.specs.declared.tokens.Kind.{Kind}
 use Rattle.cs_base.specs.declared.tokens.Kind.TheVariants as kind
@@ -16,15 +17,16 @@ use Rattle.cs_base.specs.Token.{Token}
 use Rattle.line_shape.specs.Signs.{is_name}
 use Rattle.line_shape.specs.Signs as signs
 use Rattle.analysis.specs.Below.linkage_join.Linkage.{link_to, links_of as external_links}
-use Rattle.analysis.specs.Below.c99_grammar.Spellings.{Spelled, punctuators}
+use Rattle.analysis.specs.Below.c99_grammar.Spellings.{punctuators}
 use Rattle.analysis.specs.Below.c99_grammar.Standard.{iso}
 use Rattle.analysis.specs.Below.c99_read.State.{base_at, is_identifier}
-use Rattle.analysis.specs.Below.c99_grammar.TokenClasses.{spelled_class, class_of_kind, base_class}
+use Rattle.analysis.specs.Below.c99_grammar.TokenClasses.{class_of_kind, base_class}
 use Rattle.analysis.specs.Below.scope_bind.declared.bound.Name.{Name}
 use Rattle.analysis.specs.Below.scope_bind.Names.{entity_at}
 use Rattle.analysis.specs.Analysis.{UnitAnalysis, AnalysisValue}
 use Rattle.analysis.specs.Links.{is_bound_to, first_occurrence, occurrence_link, occurrence_links, names_of_units, are_alike, unit_links, links_of}
 use Rattle.analysis.proofs.NamingLemmas.{split_at, in_left, in_right, in_filter}
+use Rattle.analysis.proofs.FirstLemmas.{bound_same as bound_to}
 use Rattle.edited_unit_laws.proofs.ListLemmas.{In, AllOf, found, in_flat}
 
 -- ---- lists
@@ -63,9 +65,6 @@ bound_name names k e at = by (find (λ (n : Name). n.index == k) (reverse names)
     by (Some n) is f =
         let r = found (λ (m : Name). m.index == k) (reverse names) n is in
         (n, in_reverse n names r.0, eqb-true n.index k r.1, same_Some n.entity e f)
-
-pub bound_to : (names : List Name) (e k : ℕ) → entity_at names k ≡ Some e → is_bound_to names e k ≡ true
-bound_to names e k at = ap (λ (o : Option ℕ). option_map_or (λ (x : ℕ). x == e) o false) at ∙ eq-eqb e e refl
 
 pub entity_of : (names : List Name) (e k : ℕ) → is_bound_to names e k ≡ true → entity_at names k ≡ Some e
 entity_of names e k bound = by (entity_at names k) bound
@@ -174,23 +173,6 @@ names_linked a u i j e t at bound f named also same =
     (in_left l (flat_map unit_links a.units) external own)
 
 -- ---- classes
-
-sign_class : (words : List Spelled) (text : List ℕ) (other : _) → list_all (λ w. not (is_identifier w.1)) words ≡ true → is_identifier other ≡ false
-    → is_identifier (spelled_class words text other) ≡ false
-unfolding spelled_class
-sign_class [] text other all last = last
-sign_class (w ∷ words) text other all last =
-    let both = and_parts (not (is_identifier w.1)) (list_all (λ v. not (is_identifier v.1)) words) all in
-    by (bytes_eq text w.0) both.0 (sign_class words text other both.1 last)
-  where
-    not_true : (b : Bool) → not b ≡ true → b ≡ false
-    not_true true k = absurd (cc)
-    not_true false k = refl
-
-    by : (c : Bool) → not (is_identifier w.1) ≡ true → is_identifier (spelled_class words text other) ≡ false
-        → is_identifier (if c then w.1 else spelled_class words text other) ≡ false
-    by true k m = not_true (is_identifier w.1) k
-    by false k m = m
 
 kind_named : (std : Edition) (k : Kind) (text : List ℕ) → is_identifier (class_of_kind (iso std) k text) ≡ true → signs.is_identifier k ≡ true
 kind_named std kind.Ident text h = refl

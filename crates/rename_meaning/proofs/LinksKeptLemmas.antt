@@ -10,6 +10,7 @@ use Rattle.cs_base.specs.declared.positions.Part.{Part}
 use Rattle.cs_base.specs.declared.tokens.Link.{Link}
 use Rattle.cs_base.specs.Token.{Token}
 use Rattle.cs_base.specs.Units.{UnitValue}
+use Rattle.cs_base.proofs.ListLemmas.{spelled_same as alike_from}
 use Rattle.line_shape.specs.Signs.{is_name}
 use Rattle.analysis.specs.Below.linkage_join.Linkage.{UnitValue as ExternalNames, links_of as external_links}
 use Rattle.unit_steps.specs.Below.macro_expand.Renaming.{Renaming}
@@ -40,7 +41,6 @@ use Rattle.rename_meaning.specs.KeptUnits.{change}
 use Rattle.rename_meaning.specs.KeptLinks.{LinksAreKept, LinksAreRenamedWhereAllowed}
 use Rattle.rename_meaning.proofs.ExternalNameLemmas.{alike_both, NamesHave, IsOfNames, links_of_names, AreTogether, ProjectsTogether, OwnTogether, LinkStays, none_together, all_together, names_kept}
 use Rattle.rename_meaning.proofs.LinkedNameLemmas.{bound_name, entity_of}
-use Rattle.rename_meaning.proofs.NamedLemmas.{alike_from}
 use Rattle.rename_meaning.proofs.UnitNameLemmas.{name_token, name_linked}
 
 pub with_first : (b x y : Bool) → (b ≡ true → x ≡ y) → (b && x) ≡ (b && y)

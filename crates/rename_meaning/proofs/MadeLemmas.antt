@@ -1,9 +1,9 @@
 -- Strings and pasted tokens of a unit, made anew of renamed tokens.
-use Rattle.std.proofs.Common.{◌≡◌, ℕ, zero, suc, ◌+◌, ◌-◌, ◌==◌, Bool, true, false, List, ◌∷◌, ◌++◌, length, map, replicate, Option, Some, None, Ok, Err, inl, inr, refl, sym, ap, subst, ◌∙◌, arith, ◌*◌, length-append, []}
+use Rattle.std.proofs.Common.{◌≡◌, ℕ, zero, suc, ◌+◌, ◌==◌, Bool, true, false, List, ◌∷◌, ◌++◌, length, map, replicate, Option, Some, None, Ok, Err, inl, inr, refl, sym, ap, subst, ◌∙◌, arith, ◌*◌, length-append, []}
 use Rattle.std.specs.Prelude.{cond, slice_get}
 use Rattle.std.specs.List.{flat_map, list_all, list_any}
 use Rattle.std.specs.Option.{option_map_or}
-use Rattle.std.proofs.lemmas.Bool.{cases_Bool, and_parts, and_from, eq-eqb, false_from_ne_true, both_ways}
+use Rattle.std.proofs.lemmas.Bool.{cases_Bool, and_parts, and_from, false_from_ne_true, both_ways}
 use Rattle.std.proofs.lemmas.List.Folds.{list_all-append}
 use Rattle.cs_base.specs.declared.positions.Part.{Part}
 use Rattle.cs_base.specs.declared.positions.Pos.{Pos}
@@ -23,7 +23,7 @@ use Rattle.source_files.specs.KeptFiles.{KeptValue}
 use Rattle.unit_steps.specs.Notes.{Happened, pasted_of, Note}
 use Rattle.unit_steps.specs.State.{Did}
 use Rattle.unit_steps.specs.Texts.{UnitTextValue, unit_text}
-use Rattle.expansion_laws.specs.Spelled.{fits, is_spelled}
+use Rattle.expansion_laws.specs.Spelled.{is_spelled}
 use Rattle.expansion_laws.specs.Telling.{IsPasted}
 use Rattle.expansion_laws.proofs.ListLemmas.{AllToks, toks_at, each_tok, toks_more, toks_pass}
 use Rattle.expansion_laws.proofs.PiecesLemmas.{glue_is}
@@ -31,7 +31,8 @@ use Rattle.expansion_laws.proofs.TellingLemmas.{string_is}
 use Rattle.unit_laws.proofs.DoneLemmas.{HappenedSo, NotedSo, UnitRules}
 use Rattle.unit_laws.proofs.NoteLemmas.{in_at, each_in, flat_in}
 use Rattle.unit_laws.proofs.UnitLemmas.{unit_has}
-use Rattle.part_respell.specs.Respelled.{member_over, put_in, put_at, put_for, spelled, spelled_from}
+use Rattle.part_respell.specs.Respelled.{member_over, put_at, put_for, spelled, spelled_from}
+use Rattle.part_respell.proofs.PutLemmas.{first_put}
 use Rattle.analysis.specs.Analysed.{Analysed}
 use Rattle.analysis.specs.Analysis.{UnitAnalysis, AnalysisValue}
 use Rattle.analysis.specs.FileTokens.{file_tokens, numbers_brought}
@@ -41,6 +42,7 @@ use Rattle.rename_rules.specs.Offences.{header_places}
 use Rattle.rename_rules.specs.Tokens.{holders, pasted_tokens, starts_in}
 use Rattle.offences.specs.Tokens.{holds_member}
 use Rattle.lexer.proofs.FitLemmas.{identifier-words}
+use Rattle.lexer.proofs.NameLemmas.{identifier_on}
 use Rattle.rename_meaning.specs.Allowed.{IsAllowed}
 use Rattle.rename_meaning.specs.MadeTokens.{IsOutcome, IsMadeAnew, TokensAreMadeAnew, StringsAreOfRenamedTokens, HeadersStay}
 use Rattle.rename_meaning.specs.Renamings.{renaming}
@@ -53,19 +55,21 @@ use Rattle.rename_meaning.proofs.PutLemmas.{put_words}
 use Rattle.rename_meaning.proofs.RenamingLemmas.{spell-same}
 use Rattle.rename_meaning.proofs.SpellLemmas.{spelled-kept, is_from}
 use Rattle.rename_meaning.proofs.StringLemmas.{IsStringed, spell_append, trace_append, string_spelled, string_traced}
-use Rattle.edited_unit_laws.proofs.TracedLemmas.{AreChained, Traced, spelled_fits, rules_traced, source_of_kept, digits_length, line_in, answer_in, kept_traced}
+use Rattle.edited_unit_laws.proofs.TracedLemmas.{AreChained, Traced, spelled_fits, rules_traced, source_of_kept, line_in, answer_in, kept_traced}
 use Rattle.edited_unit_laws.proofs.AnalysedUnitLemmas.{IsUnit, unit_is, unit_traced, no_lines, brought_in}
 use Rattle.renamed.specs.Renamed.{spell_from, moved_in, move_to, trace_from}
 use Rattle.std.specs.Fmt.{decimal}
 use Rattle.std.proofs.lemmas.List.{length-replicate}
 use Rattle.lexer.specs.Tokens.{tokens_of}
 use Rattle.macro_body.specs.Substitution.{line_number, path_string, path_text}
+use Rattle.macro_body.proofs.PredefinedLemmas.{length-digit_origins as digits_length}
 use Rattle.source_files.specs.Files.{Table, SourceFile}
 use Rattle.source_files.specs.Sources.{source_at}
 use Rattle.source_files.specs.Tables.{IsGrown}
 use Rattle.unit_steps.specs.Conditions.{answer_for}
 use Rattle.include_tree.proofs.StayingLemmas.{source-grown}
 use Rattle.expansion_laws.proofs.StringLemmas.{string_long}
+use Rattle.expansion_laws.proofs.MadeLemmas.{fits_name}
 use Rattle.unit_laws.proofs.PartLemmas.{from_files}
 use Rattle.unit_laws.proofs.SpellingLemmas.{files_are_spelled}
 use Rattle.unit_laws.proofs.TextLemmas.{line_event, answer_among}
@@ -131,22 +135,6 @@ words_from members name (o ∷ os) (c ∷ text) words all =
     for_words None d word = and_from (is_word d) true word refl
     for_words (Some p) d word = put_words name p d (member_over members p) words word
 
--- an identifier, or a character that begins one, before letters, digits and `_`
-identifier_on : (first rest : List ℕ) → is_identifier_text first ≡ true → list_all is_word rest ≡ true → is_identifier_text (first ++ rest) ≡ true
-identifier_on [] rest is words = absurd (cc)
-identifier_on (c ∷ cs) rest is words =
-    let both = and_parts (is_nondigit c) (list_all is_word cs) is in
-    and_from (is_nondigit c) (list_all is_word (cs ++ rest)) both.0
-    (list_all-append is_word cs rest ∙ and_from (list_all is_word cs) (list_all is_word rest) both.1 words)
-
--- what begins a file token gets an identifier, if it begins an identifier
-first_put : (name : List ℕ) (p : Pos) (c : ℕ) (o : Option Part) → is_identifier_text name ≡ true → is_nondigit c ≡ true → ((m : Part) → o ≡ Some m → m.start.at ≡ p.at)
-    → is_identifier_text (option_map_or (put_in name p) o (c ∷ [])) ≡ true
-first_put name p c None is letter begins = and_from (is_nondigit c) true letter refl
-first_put name p c (Some m) is letter begins =
-    let here : (m.start.at == p.at) ≡ true = eq-eqb m.start.at p.at (begins m refl) in
-    rw here is
-
 module _ (a : AnalysisValue) (members : List Part) (part : Part) (listed : AreMembers a part members) (name : List ℕ) (is : is_identifier_text name ≡ true) where
   -- the new spelling of an identifier is one
   identifier_from : (os : List (Option Pos)) (text : List ℕ) → AreChained a os → length os ≡ length text → is_identifier_text text ≡ true
@@ -165,10 +153,6 @@ module _ (a : AnalysisValue) (members : List Part) (part : Part) (listed : AreMe
 kind_name : (k : Kind) → is_identifier k ≡ true → k ≡ Ident
 kind_name Ident h = refl
 kind_name _ h = absurd (cc)
-
-fits_name : (k : Kind) (text : List ℕ) → is_identifier k ≡ true → fits k text ≡ true → is_identifier_text text ≡ true
-fits_name Ident text h fit = fit
-fits_name _ text h fit = absurd (cc)
 
 module _ (a : Analysed) (members : List Part) (name : List ℕ) (h : IsAllowed a members name) (u : UnitAnalysis) (i : In u a.value.units) where
   -- a pasted token stays of its kind

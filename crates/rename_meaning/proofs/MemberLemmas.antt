@@ -7,6 +7,7 @@ use Rattle.std.proofs.lemmas.Bool.{cases_lt}
 use Rattle.cs_base.specs.declared.positions.Part.{Part}
 use Rattle.cs_base.specs.declared.positions.Pos.{Pos}
 use Rattle.cs_base.specs.Token.{Token, has_origins}
+use Rattle.cs_base.proofs.PlaceLemmas.{pos_is as same_pos}
 use Rattle.lexer.specs.Tokens.{tokens_of}
 use Rattle.analysis.specs.Below.eclass_map.Chain.{here}
 use Rattle.analysis.specs.Below.eclass_map.Positions.{along, holds}
@@ -18,7 +19,6 @@ use Rattle.analysis.specs.Analysis.{UnitAnalysis, AnalysisValue}
 use Rattle.analysis.specs.FileTokens.{numbers_brought, span_of, IsFileToken}
 use Rattle.analysis.specs.Parts.{IsCharacter, IsStart, IsPart, AreMembers}
 use Rattle.analysis.proofs.NamingLemmas.{in_left, in_right}
-use Rattle.analysis.proofs.Below.eclass_map.PartPlaces.{same_pos}
 use Rattle.analysis.proofs.PartLemmas.{held_character}
 use Rattle.rename_rules.specs.Tokens.{all_file_tokens}
 use Rattle.offences.specs.Tokens.{file_toks, entry_tokens as entry_toks, kept_tokens as kept_toks}

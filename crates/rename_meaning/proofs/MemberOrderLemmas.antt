@@ -1,13 +1,12 @@
 -- The members of a class that lie in one file stand together.
-use Rattle.std.proofs.Common.{◌≡◌, ℕ, zero, suc, ◌+◌, ◌<◌, true, ◌==◌, List, [], ◌∷◌, length, drop, Option, Some, None, inl, inr, refl, sym, ap, ◌∙◌, arith}
+use Rattle.std.proofs.Common.{◌≡◌, ℕ, zero, suc, ◌<◌, true, ◌==◌, List, [], ◌∷◌, length, drop, Option, Some, None, inl, inr, refl, sym, ap, ◌∙◌, arith}
 use Rattle.std.specs.Prelude.{slice_get}
 use Rattle.std.specs.List.{prefix_len}
 use Rattle.std.specs.List.Sorted.{IsStrictlySortedBy}
 use Rattle.std.specs.Option.{option_and_then}
-use Rattle.std.specs.Ordering.{nat_cmp, ordering_then, is_eq}
+use Rattle.std.specs.Ordering.{nat_cmp, is_eq}
 use Rattle.std.specs.Cmp.Lexicographic.{slice_cmp}
-use Rattle.std.specs.declared.cmp.Ordering.{Ordering}
-use Rattle.std.specs.declared.cmp.Ordering.TheVariants.{Less, Equal, Greater}
+use Rattle.std.specs.declared.cmp.Ordering.TheVariants.{Less}
 use Rattle.std.proofs.lemmas.Bool.{cases_Bool, both_ways, eq-eqb, eqb-true}
 use Rattle.std.proofs.lemmas.Cmp.{nat_list_cmp_total}
 use Rattle.std.proofs.lemmas.Map.Keys.{Less-from_sorted, sorted_tail}
@@ -15,6 +14,8 @@ use Rattle.std.proofs.lemmas.Map.Text.{is_eq-slice_cmp}
 use Rattle.std.proofs.lemmas.Option.{none-some, slice_get_within}
 use Rattle.cs_base.specs.declared.positions.Part.{Part}
 use Rattle.cs_base.proofs.FileMapLemmas.{bytes_eq-same}
+use Rattle.cs_base.proofs.OrderLemmas.{first_decides, tied}
+use Rattle.cs_base.proofs.NumberLemmas.{one-add}
 use Rattle.source_files.specs.Files.{Entry, Table}
 use Rattle.source_files.specs.KeptFiles.{KeptValue, kept_in, kept_at}
 use Rattle.source_files.specs.Tables.{paths_in, HasEachOnce}
@@ -25,7 +26,7 @@ use Rattle.analysis.specs.Places.{path_at}
 use Rattle.rename_rules.specs.Runs.{is_in}
 use Rattle.rename_meaning.specs.Allowed.{IsAllowed}
 use Rattle.rename_meaning.proofs.CharacterLemmas.{character_file}
-use Rattle.offences.proofs.PlaceLemmas.{one_place, tied}
+use Rattle.offences.proofs.PlaceLemmas.{one_place}
 use Rattle.rename_meaning.proofs.NoneLemmas.{none_stand, no_line}
 
 -- ---- each path once
@@ -49,11 +50,6 @@ one_number table n k f g once first second same =
     (path_there table k (kept_within table k g second) ∙ ap (λ (p : List ℕ). Some p) (sym same))
 
 -- ---- order
-
-first_decides : (o other : Ordering) → ordering_then o other ≡ Less → (o ≡ Equal → ⊥) → o ≡ Less
-first_decides Less other h apart = refl
-first_decides Equal other h apart = absurd (apart refl)
-first_decides Greater other h apart = absurd (cc)
 
 -- a member's file is kept
 abbrev AreKept : Table → List Part → Type 0
@@ -98,10 +94,6 @@ behind_on table path m (n ∷ ms) order less = (
         behind_on table path n ms order.1 (nat_list_cmp_total.trans path (path_at table m.start.file) (path_at table n.start.file) less (order.0 apart))
   ],
 )
-
--- what lies behind the first members of a file lies in others
-one-add : (n : ℕ) → 1 + n ≡ suc n
-one-add n = omega arith
 
 behind_run : (table : Table) (file : ℕ) (m : Part) (ms : List Part) → m.start.file ≡ file → AreByPath table (m ∷ ms)
     → AllBehind table (path_at table file) (drop (prefix_len (is_in file) ms) ms)

@@ -1,17 +1,17 @@
 -- Labels of the characters of a table whose classes are those of another, moved.
-use Rattle.std.proofs.Common.{◌≡◌, ℕ, zero, ◌+◌, ◌-◌, ◌*◌, ◌<◌, ◌≤◌, ◌&&◌, Bool, true, false, cond, List, map, length, Option, None, Some, inl, inr, refl, sym, ap, subst, ◌∙◌, arith}
+use Rattle.std.proofs.Common.{◌≡◌, ℕ, ◌+◌, ◌-◌, ◌<◌, ◌&&◌, Bool, true, false, cond, List, map, Option, Some, inl, inr, refl, sym, ap, subst, ◌∙◌, arith}
 use Rattle.std.specs.Prelude.{slice_get, option_map, nat_eq, nat_lt}
-use Rattle.std.specs.List.{count_by}
-use Rattle.std.proofs.lemmas.Bool.{cases_Bool, cases_lt, cases_eq, eqb-true, eq-eqb, ne_eqb, ltb-true, lt-ltb, false_from_ne_true}
-use Rattle.std.proofs.lemmas.Option.{none-some, same_Some, slice_get-map}
+use Rattle.std.proofs.lemmas.Bool.{cases_lt, eqb-true, eq-eqb, ne_eqb, ltb-true, lt-ltb, false_from_ne_true}
+use Rattle.std.proofs.lemmas.Option.{same_Some}
 use Rattle.cs_base.specs.declared.positions.Part.{Part}
 use Rattle.cs_base.specs.declared.positions.Pos.{Pos}
-use Rattle.analysis.specs.Below.eclass_map.ClassTable.{Table, Spot, label, class_in, members_of, part_from, part_of, Same, IsHeld, IsStart, IsPart, HasParts}
-use Rattle.analysis.specs.Below.eclass_map.Positions.{along, holds}
+use Rattle.cs_base.proofs.PlaceLemmas.{pos_is}
+use Rattle.analysis.specs.Below.eclass_map.ClassTable.{Table, Spot, label, class_in, members_of, part_from, part_of, IsStart, IsPart, HasParts}
+use Rattle.analysis.specs.Below.eclass_map.Positions.{along}
 use Rattle.analysis.specs.Below.eclass_map.Resized.{Resizes, begins_before, moved_to, moved_part}
 use Rattle.analysis.proofs.Below.eclass_map.TokenFacts.{holding}
 use Rattle.edited_unit_laws.proofs.ListLemmas.{In}
-use Rattle.rename_meaning.proofs.SameElementLemmas.{mapped_at, pos_is}
+use Rattle.rename_meaning.proofs.SameElementLemmas.{mapped_at}
 
 abbrev pub spot : ℕ → ℕ → Spot
 spot c o = record { class = c; offset = o }

@@ -6,7 +6,9 @@ use Rattle.std.specs.Str.{bytes_eq}
 use Rattle.std.proofs.lemmas.Bool.{cases_Bool, both_ways}
 use Rattle.std.proofs.lemmas.List.{length-map}
 use Rattle.std.proofs.lemmas.Option.{slice_get-map}
-use Rattle.cs_base.proofs.FileMapLemmas.{bytes_eq-equal, bytes_eq-same}
+use Rattle.expansion_laws.proofs.MadeLemmas.{fits_name}
+use Rattle.cs_base.proofs.FileMapLemmas.{bytes_eq-equal}
+use Rattle.cs_base.proofs.ListLemmas.{spelled_same as alike_from}
 use Rattle.cs_base.specs.declared.positions.Part.{Part}
 use Rattle.cs_base.specs.declared.positions.Pos.{Pos}
 use Rattle.cs_base.specs.Reserved.{is_reserved_text}
@@ -16,7 +18,7 @@ use Rattle.lexer.specs.Spelling.{is_identifier_text}
 use Rattle.line_shape.specs.Signs.{is_name}
 use Rattle.unit_steps.specs.Below.macro_expand.Renaming.{Renaming, renamed}
 use Rattle.unit_steps.specs.Below.macro_expand.Renaming as macros
-use Rattle.analysis.specs.Below.c_types.Declarations.{spelling_at, alike}
+use Rattle.analysis.specs.Below.c_types.Declarations.{spelling_at}
 use Rattle.tree_laws.specs.RenamedNames.{is_own_word, StaysApart}
 use Rattle.part_respell.specs.Respelled.{spelled}
 use Rattle.offences.specs.Tokens.{holds_member}
@@ -33,12 +35,9 @@ use Rattle.rename_meaning.proofs.NoneLemmas.{NoneStand, none_stand, holder, hold
 use Rattle.rename_meaning.proofs.OccurringLemmas.{occurring_are_kept, name_like, parted_one}
 use Rattle.edited_unit_laws.proofs.TracedLemmas.{spelled_fits}
 use Rattle.edited_unit_laws.proofs.AnalysedUnitLemmas.{unit_is}
-use Rattle.rename_meaning.proofs.IdentifierLemmas.{identifier_from, fits_name}
+use Rattle.rename_meaning.proofs.IdentifierLemmas.{identifier_from}
 use Rattle.rename_meaning.proofs.SpelledLemmas.{kind_plain, plain_apart, own_word_fixed, fixed_plain, unquoted_word}
 use Rattle.rename_meaning.proofs.UnitTokenLemmas.{tokens_kept}
-
-pub alike_from : (x y : List ℕ) → x ≡ y → bytes_eq x y ≡ true
-alike_from x y e = ap (λ (w : List ℕ). bytes_eq x w) (sym e) ∙ bytes_eq-same x
 
 module _ (a : Analysed) (members : List Part) (name : List ℕ) (r : Renaming) (h : IsAllowed a members name) (spells : Spells members name r)
     (keeps : KeepsUnedited r) (u : UnitAnalysis) (i : In u a.value.units) where

@@ -1,11 +1,13 @@
 -- What is so where no offence stands.
-use Rattle.std.proofs.Common.{◌≡◌, ℕ, ◌+◌, ◌==◌, Bool, true, false, not, List, [], ◌∷◌, ◌++◌, Option, None, Some, is_some, inl, inr, refl, sym, ap, ◌∙◌}
+use Rattle.std.proofs.Common.{◌≡◌, ℕ, ◌==◌, Bool, true, false, not, List, [], ◌∷◌, ◌++◌, Option, None, Some, is_some, inl, inr, refl, sym, ap, ◌∙◌}
 use Rattle.std.specs.Prelude.{◌&&◌, ◌||◌, cond}
 use Rattle.std.specs.List.{flat_map, list_any}
 use Rattle.std.specs.Option.{option_map_or}
 use Rattle.std.specs.Str.{bytes_eq}
 use Rattle.std.proofs.lemmas.Bool.{cases_Bool, both_ways, false≢true, or_parts}
 use Rattle.cs_base.proofs.FileMapLemmas.{bytes_eq-same, bytes_eq-equal}
+use Rattle.cs_base.proofs.ListLemmas.{any_at, front_none as nil_left, nil_behind as nil_right}
+use Rattle.cs_base.proofs.PlaceLemmas.{if_nil}
 use Rattle.cs_base.specs.declared.causes.Cause.TheVariants as cause
 use Rattle.cs_base.specs.declared.positions.Part.{Part}
 use Rattle.cs_base.specs.declared.positions.Pos.{Pos}
@@ -33,7 +35,7 @@ use Rattle.rename_rules.specs.Prefixes.{prefix_places}
 use Rattle.rename_rules.specs.Tokens.{all_file_tokens, pasted_tokens, start_of, starts_in, holders, is_new_spelling, clashes}
 use Rattle.offences.specs.Tokens.{member_of, holds_member, first_place}
 use Rattle.rename_meaning.specs.Allowed.{IsAllowed}
-use Rattle.edited_unit_laws.proofs.ListLemmas.{In, nil_left, nil_right, map_nil, cons_nil, flat_nil, any_at}
+use Rattle.edited_unit_laws.proofs.ListLemmas.{In, map_nil, cons_nil, flat_nil}
 
 -- ---- each kind of offence by itself
 
@@ -162,10 +164,6 @@ starts_at members (o ∷ os) held none = starts_by members o os (member_of membe
 -- what holds a member has a place where it does
 pub some_start : (members : List Part) (t : Token) → holds_member members t ≡ true → starts_in members t ≡ [] → ⊥
 some_start members t held none = starts_at members t.origins held none
-
-if_nil : (b : Bool) (xs : List Pos) → (xs ≡ [] → ⊥) → cond b xs [] ≡ [] → b ≡ false
-if_nil true xs some e = absurd (some e)
-if_nil false xs some e = refl
 
 else_nil : (b : Bool) (xs : List Pos) → (xs ≡ [] → ⊥) → cond b [] xs ≡ [] → b ≡ true
 else_nil true xs some e = refl

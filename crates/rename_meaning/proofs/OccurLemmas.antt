@@ -38,7 +38,7 @@ abbrev pub Occurs : AnalysisValue → Token → Type 0
 Occurs a t = occurs (occurring_in a) t ≡ true
 
 -- what is neither an identifier nor a punctuator is said to occur
-other_occurs : (a : AnalysisValue) (k : Kind) (origins : List (Option Pos)) (text : List ℕ) → is_identifier k ≡ false → is_punctuator k ≡ false
+pub other_occurs : (a : AnalysisValue) (k : Kind) (origins : List (Option Pos)) (text : List ℕ) → is_identifier k ≡ false → is_punctuator k ≡ false
     → occurring_in a k origins text ≡ true
 unfolding occurring_in
 other_occurs a k origins text no_name no_sign = rw (no_name, no_sign) refl

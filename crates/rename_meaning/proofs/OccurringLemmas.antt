@@ -6,13 +6,13 @@ use Rattle.std.specs.Option.{option_map_or, option_and_then}
 use Rattle.std.specs.Str.{bytes_eq}
 use Rattle.std.proofs.lemmas.Bool.{cases_Bool, both_ways, and_parts, and_from, or_left, or_right, or_cases, eqb-true, eq-eqb}
 use Rattle.cs_base.proofs.FileMapLemmas.{bytes_eq-equal, bytes_eq-same}
+use Rattle.cs_base.proofs.ListLemmas.{any_at}
 use Rattle.cs_base.specs.declared.positions.Part.{Part}
 use Rattle.cs_base.specs.declared.positions.Pos.{Pos}
-use Rattle.cs_base.specs.declared.tokens.Kind.{Kind}
-use Rattle.cs_base.specs.declared.tokens.Kind.TheVariants.{Ident, Punct}
 use Rattle.cs_base.specs.Reserved.{is_reserved_text}
 use Rattle.cs_base.specs.Token.{Token}
 use Rattle.line_shape.specs.Signs.{is_identifier, is_punctuator, is_name}
+use Rattle.line_shape.proofs.SignLemmas.{kinds-apart as neither_name, name_no_sign as not_both}
 use Rattle.unit_steps.specs.Below.macro_expand.Renaming.{Renaming}
 use Rattle.unit_steps.specs.Below.macro_expand.Renaming as macros
 use Rattle.source_files.specs.Files.{Table}
@@ -29,7 +29,7 @@ use Rattle.rename_meaning.specs.Occurring.{same_origin, same_origins, is_alike, 
 use Rattle.rename_meaning.specs.Spellings.{IsOfFile, IsPasted, IsOfFileOrName}
 use Rattle.rename_meaning.proofs.ApartLemmas.{IsParted, parted_of, file_told, pasted_parted, parted_stays, others_stay_apart}
 use Rattle.rename_meaning.proofs.KeptTokenLemmas.{other_same}
-use Rattle.edited_unit_laws.proofs.ListLemmas.{In, any_at, in_flat}
+use Rattle.edited_unit_laws.proofs.ListLemmas.{In, in_flat}
 use Rattle.rename_meaning.proofs.MemberLemmas.{toks_in}
 use Rattle.rename_meaning.proofs.NoneLemmas.{none_stand, holder, holder_free}
 
@@ -122,14 +122,6 @@ occurs_like a t kind h =
     let told : IsOfFile a v ⊎ IsPasted a v =
     split_at (IsOfFile a v ⊎ IsPasted a v) v (kept_tokens 0 a.table) (pasted_tokens a) u.1.0 u.1.1 (λ j. inl (kept_of_file a v j)) (λ j. inr (pasted_is a v j)) in
     (v, record { told = told; kind = both.0; text = bytes_eq-equal v.text t.text same.0; origins = origins_are v.origins t.origins same.1 })
-
-not_both : (k : Kind) → is_identifier k ≡ true → is_punctuator k ≡ false
-not_both Ident h = refl
-not_both _ h = absurd (cc)
-
-neither_name : (k : Kind) → is_punctuator k ≡ true → is_identifier k ≡ false
-neither_name Punct h = refl
-neither_name _ h = absurd (cc)
 
 module _ (a : Analysed) (members : List Part) (name : List ℕ) (r : Renaming) (h : IsAllowed a members name) (spells : Spells members name r) where
   pub parted_one : (u : Token) → IsOfFile a.value u ⊎ IsPasted a.value u → IsParted a.value members u

@@ -1,5 +1,5 @@
 -- Parts and file tokens move alike by the edited files and in the table of classes.
-use Rattle.std.proofs.Common.{◌≡◌, ℕ, zero, suc, ◌+◌, ◌-◌, ◌*◌, ◌<◌, ◌≤◌, ◌&&◌, Bool, true, false, List, [], ◌∷◌, map, length, Option, None, Some, ◌⊎◌, inl, inr, refl, sym, ap, subst, ◌∙◌, arith}
+use Rattle.std.proofs.Common.{◌≡◌, ℕ, zero, suc, ◌+◌, ◌-◌, ◌*◌, ◌<◌, ◌≤◌, true, false, List, [], ◌∷◌, length, Option, None, Some, ◌⊎◌, inl, inr, refl, sym, ap, subst, ◌∙◌, arith}
 use Rattle.std.specs.Prelude.{slice_get, nat_eq, nat_lt}
 use Rattle.std.specs.List.{AllByRecursion, flat_map}
 use Rattle.std.specs.List.Sorted.{IsStrictlySortedBy}
@@ -12,13 +12,13 @@ use Rattle.std.proofs.lemmas.Option.{none-some, same_Some}
 use Rattle.cs_base.specs.declared.positions.Part.{Part}
 use Rattle.cs_base.specs.declared.positions.Pos.{Pos}
 use Rattle.cs_base.specs.Token.{Token, has_origins}
+use Rattle.cs_base.proofs.PlaceLemmas.{pos_is}
 use Rattle.analysis.specs.Below.eclass_map.Chain.{here}
-use Rattle.analysis.specs.Below.eclass_map.ClassTable.{Table, part_with, members_of}
+use Rattle.analysis.specs.Below.eclass_map.ClassTable.{part_with, members_of}
 use Rattle.analysis.specs.Below.eclass_map.Positions.{along, end_of, holds}
 use Rattle.analysis.specs.Below.eclass_map.Resized.{begins_before, members_before, moved_to}
-use Rattle.analysis.proofs.Below.eclass_map.TokenFacts.{holding, holds_from}
+use Rattle.analysis.proofs.Below.eclass_map.TokenFacts.{holding}
 use Rattle.lexer.specs.Logical.{logical_of, spelling}
-use Rattle.lexer.specs.Places.{pos}
 use Rattle.lexer.specs.Tokens.{tokens_of}
 use Rattle.source_files.specs.KeptFiles.{KeptValue, kept_in, kept_at}
 use Rattle.analysis.specs.Analysed.{Analysed}
@@ -34,13 +34,13 @@ use Rattle.analysis.proofs.PlaceNameLemmas.{kept_number}
 use Rattle.analysis.proofs.TokenPlaceLemmas.{token_placed, tokens_in_line}
 use Rattle.rename_meaning.specs.Allowed.{IsAllowed}
 use Rattle.rename_meaning.proofs.CharacterLemmas.{number_file, unit_of, character_file}
-use Rattle.edited_unit_laws.proofs.ListLemmas.{In, AllOf, all_of}
+use Rattle.edited_unit_laws.proofs.ListLemmas.{In, all_of}
 use Rattle.edited_unit_laws.proofs.TableTokenLemmas.{in_table, file_token, span_among, span_is}
 use Rattle.rename_meaning.proofs.NoneLemmas.{none_stand, no_line}
 use Rattle.edited_unit_laws.proofs.AnalysedUnitLemmas.{no_lines}
 use Rattle.rename_meaning.specs.OneMove.{PartsMoveAlike, TokensMoveAlike}
 use Rattle.rename_meaning.proofs.MoveLemmas.{one_if, held_by, before_count, AreWhole, same_before, length_of, moves_alike}
-use Rattle.rename_meaning.proofs.SameElementLemmas.{Once, once_from, mapped_at, pos_is}
+use Rattle.rename_meaning.proofs.SameElementLemmas.{Once, once_from, mapped_at}
 
 -- ---- members over one character
 

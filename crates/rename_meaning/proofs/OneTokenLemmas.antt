@@ -6,20 +6,17 @@ use Rattle.std.proofs.lemmas.Bool.Decides.{nat_tests}
 use Rattle.std.proofs.Math.Seq.{take-length}
 use Rattle.cs_base.specs.declared.tokens.Kind.{Kind}
 use Rattle.cs_base.specs.declared.tokens.Kind.TheVariants.{Ident, Other}
-use Rattle.lexer.specs.Characters.{line_feed, slash, backslash, carriage_return, is_nondigit, is_word, is_white, begins}
-use Rattle.lexer.specs.Logical.{Character, gone_length, logical_from, logical_of, spelling}
+use Rattle.lexer.specs.Characters.{line_feed, slash, is_nondigit, is_word, is_white}
+use Rattle.lexer.specs.Logical.{Character, logical_from, logical_of, spelling}
 use Rattle.lexer.specs.OneToken.{free_kind, only_token, one_token_of}
 use Rattle.lexer.specs.Spelling.{is_identifier_text, kind_of, kind_in}
 use Rattle.lexer.specs.Tokens.{front_length, kind_or_other, token_piece, piece_of, expects_header, with_token, found_from, found_of}
 use Rattle.lexer.proofs.FitLemmas.{identifier-words}
+use Rattle.lexer.proofs.EditedBytes.{gone-word as word_stays}
 
 -- a letter, a digit or `_` is none of some other characters
 pub word_apart : (c d : ℕ) → is_word d ≡ false → is_word c ≡ true → (c == d) ≡ false
 word_apart c d other is = false_from_ne_true (c == d) (λ same. both_ways (is_word d) other (ap is_word (sym (eqb-true c d same)) ∙ is))
-
-word_stays : (c : ℕ) (cs : List ℕ) → is_word c ≡ true → gone_length c cs ≡ 0
-unfolding gone_length
-word_stays c cs is = rw (word_apart c backslash refl is, word_apart c carriage_return refl is) refl
 
 -- words are their own logical text
 words_logical : (at : ℕ) (text : List ℕ) → list_all is_word text ≡ true → spelling (logical_from 0 at text) ≡ text

@@ -7,6 +7,7 @@ use Rattle.std.specs.Str.{bytes_eq}
 use Rattle.std.proofs.lemmas.Bool.{cases_Bool, and_parts}
 use Rattle.std.proofs.lemmas.Option.{none-some, same_Some}
 use Rattle.cs_base.proofs.FileMapLemmas.{bytes_eq-equal, bytes_eq-same}
+use Rattle.cs_base.proofs.ListLemmas.{any_at, none_at as not_found}
 use Rattle.cs_base.specs.declared.tokens.Kind.{Kind}
 use Rattle.cs_base.specs.declared.tokens.Kind.TheVariants.{Ident}
 use Rattle.cs_base.specs.declared.tokens.Link.{Link}
@@ -22,7 +23,7 @@ use Rattle.unit_steps.specs.Names.{spelled_in, linked_with, parameter_named, def
 use Rattle.unit_steps.specs.Notes.{Note, Linked, link, links_of}
 use Rattle.edited_unit_laws.specs.Lines.{Each, parameters_of}
 use Rattle.analysis.proofs.NamingLemmas.{map_at, filter_in}
-use Rattle.edited_unit_laws.proofs.ListLemmas.{In, any_at, found, not_found, in_flat}
+use Rattle.edited_unit_laws.proofs.ListLemmas.{In, found, in_flat}
 use Rattle.rename_meaning.proofs.DirectiveLemmas.{in_more, first_or, none_in}
 use Rattle.edited_unit_laws.proofs.FileLemmas.{StandsIn, name_spelled}
 use Rattle.rename_meaning.proofs.KeptTokenLemmas.{each_of}

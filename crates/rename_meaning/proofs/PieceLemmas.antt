@@ -10,6 +10,7 @@ use Rattle.cs_base.specs.declared.positions.Part.{Part}
 use Rattle.cs_base.specs.declared.positions.Pos.{Pos}
 use Rattle.cs_base.specs.declared.tokens.Kind.{Kind}
 use Rattle.cs_base.specs.Token.{Token}
+use Rattle.cs_base.proofs.ListLemmas.{none_at as not_found}
 use Rattle.lexer.specs.Characters.{line_feed, backslash, double_quote, is_word}
 use Rattle.lexer.specs.Spelling.{is_end, closes, is_identifier_text}
 use Rattle.macro_body.specs.Below.paste_origin.Strings.{space, needs_backslash, escaped, origins_along, spelling_of, origins_of, later_spelling, later_origins, spellings_of, all_origins, string_text, string_origins}
@@ -21,7 +22,7 @@ use Rattle.analysis.specs.Parts.{AreMembers, Begins}
 use Rattle.renamed.specs.Renamed.{spell_from}
 use Rattle.expansion_laws.proofs.ListLemmas.{AllToks, toks_more}
 use Rattle.expansion_laws.proofs.StringLemmas.{IsEach, along_long, later_long, all_long}
-use Rattle.edited_unit_laws.proofs.ListLemmas.{found, not_found}
+use Rattle.edited_unit_laws.proofs.ListLemmas.{found}
 use Rattle.rename_meaning.proofs.MemberLemmas.{over_begins}
 use Rattle.rename_meaning.proofs.OneTokenLemmas.{word_apart}
 use Rattle.rename_meaning.proofs.SpellLemmas.{is_from, for_kept}

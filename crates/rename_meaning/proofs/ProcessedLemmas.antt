@@ -9,16 +9,19 @@ use Rattle.std.proofs.lemmas.Option.{same_Some, slice_get_within}
 use Rattle.cs_base.specs.declared.positions.Part.{Part}
 use Rattle.cs_base.specs.declared.positions.Pos.{Pos}
 use Rattle.cs_base.specs.declared.tokens.Link.{Link}
-use Rattle.cs_base.specs.Token.{Token, origin_at}
+use Rattle.cs_base.specs.Token.{Token}
+use Rattle.cs_base.proofs.OriginLemmas.{origin_cases as origin_there}
+use Rattle.cs_base.proofs.PlaceLemmas.{pos_is as same_pos}
 use Rattle.lexer.specs.Characters.{is_word}
 use Rattle.lexer.specs.Places.{pos}
 use Rattle.lexer.specs.Tokens.{tokens_of, firsts_of}
-use Rattle.lexer.proofs.OriginLemmas.{length-origins}
+use Rattle.lexer.proofs.OriginLemmas.{length-origins, origin_in}
 use Rattle.line_shape.specs.declared.items.ItemKind.{ItemKind}
 use Rattle.line_shape.specs.declared.items.ItemKind.TheVariants as kind
 use Rattle.line_shape.specs.declared.items.GnuLine.TheVariants as gnu
 use Rattle.line_shape.specs.Items.{lines_of}
 use Rattle.line_shape.specs.Signs.{is_name}
+use Rattle.line_shape.proofs.SignLemmas.{name_kept as named_parted}
 use Rattle.unit_steps.specs.declared.events.Reached.{Reached}
 use Rattle.source_files.specs.Files.{Table}
 use Rattle.source_files.specs.KeptFiles.{KeptValue, kept_at}
@@ -43,7 +46,6 @@ use Rattle.analysis.specs.Parts.{AreSame, IsPart, IsStart}
 use Rattle.analysis.proofs.NamingLemmas.{split_at, in_left, in_right, filter_in, any_in}
 use Rattle.analysis.proofs.PlaceNameLemmas.{kept_number}
 use Rattle.analysis.proofs.TokenPlaceLemmas.{token_placed}
-use Rattle.analysis.proofs.Below.eclass_map.PartPlaces.{same_pos}
 use Rattle.offences.specs.Tokens.{holds_member}
 use Rattle.edited_unit_laws.specs.Lines.{Each}
 use Rattle.unit_laws.proofs.NameLemmas.{kind_words, only_one}
@@ -52,9 +54,9 @@ use Rattle.rename_meaning.specs.KeptFiles.{WordIsFree}
 use Rattle.rename_meaning.specs.NamedClasses.{WordsAreFreeWhereNamed}
 use Rattle.edited_unit_laws.proofs.ListLemmas.{In, AllOf, all_of, in_flat}
 use Rattle.rename_meaning.proofs.DirectiveLemmas.{word_of, word_not_taken, word_listed, word_first, word_later, taken_listed}
-use Rattle.rename_meaning.proofs.KeptLemmas.{named_parted, token_held, once}
+use Rattle.rename_meaning.proofs.KeptLemmas.{token_held, once}
 use Rattle.edited_unit_laws.proofs.FileLemmas.{token_stands}
-use Rattle.rename_meaning.proofs.SpellLemmas.{is_from, origin_in}
+use Rattle.rename_meaning.proofs.SpellLemmas.{is_from}
 use Rattle.rename_meaning.proofs.LinkLemmas.{Both, links_have}
 use Rattle.rename_meaning.proofs.MemberLemmas.{over_in}
 use Rattle.edited_unit_laws.proofs.TableTokenLemmas.{file_token, span_is}
@@ -149,13 +151,6 @@ ready_made : (a : AnalysisValue) (t : Token) → IsReady a t → is_name t ≡ t
 ready_made a t h named =
     let whole = h.whole in
     whole (kind_words t.kind t.text named (spelled_fits t h.spelled))
-
-origin_there : (t : Token) (k : ℕ) (p : Pos) → origin_at t k ≡ Some p → slice_get t.origins k ≡ Some (Some p)
-origin_there t k p e = by (slice_get t.origins k) e
-  where
-    by : (o : Option (Option Pos)) → option_and_then (λ (x : Option Pos). x) o ≡ Some p → o ≡ Some (Some p)
-    by None f = absurd (cc)
-    by (Some x) f = ap (λ (y : Option Pos). Some y) f
 
 module _ (a : Analysed) (members : List Part) (name : List ℕ) (h : IsAllowed a members name) where
   unit_ready : (u : UnitAnalysis) → In u a.value.units → AllOf (IsReady a.value) u.text.toks × AllOf (Both (IsReady a.value)) u.text.links

@@ -5,6 +5,7 @@ use Rattle.std.specs.Option.{option_map_or}
 use Rattle.std.proofs.lemmas.Bool.{cases_Bool, cases_lt, both_ways, eq-eqb, eqb-true, lt-ltb, false_from_ne_true}
 use Rattle.cs_base.specs.declared.positions.Part.{Part}
 use Rattle.cs_base.specs.declared.positions.Pos.{Pos}
+use Rattle.cs_base.proofs.ListLemmas.{front_none as nil_left, nil_behind as nil_right}
 use Rattle.lexer.specs.Logical.{gone_length}
 use Rattle.lexer.specs.Places.{pos}
 use Rattle.lexer.specs.Respelling.{Put, edited_from as bytes_edited, edited}
@@ -16,7 +17,7 @@ use Rattle.analysis.specs.Analysis.{AnalysisValue}
 use Rattle.rename_rules.specs.Offences.{large_place}
 use Rattle.rename_rules.specs.Runs.{runs, is_in, is_edited, new_size, size_of}
 use Rattle.rename_rules.proofs.RunLemmas.{runs-split}
-use Rattle.edited_unit_laws.proofs.ListLemmas.{nil_left, nil_right, cons_nil}
+use Rattle.edited_unit_laws.proofs.ListLemmas.{cons_nil}
 use Rattle.rename_meaning.proofs.MemberOrderLemmas.{NoneIn, StandTogether}
 
 -- ---- texts with the same for each character

@@ -2,7 +2,6 @@
 use Rattle.std.proofs.Common.{◌≡◌, ℕ, zero, suc, ◌+◌, List, [], ◌∷◌, map, Some, refl, sym, ap, subst, ◌∙◌, arith}
 use Rattle.std.specs.Prelude.{slice_get}
 use Rattle.std.proofs.lemmas.Option.{none-some, same_Some}
-use Rattle.cs_base.specs.declared.positions.Pos.{Pos}
 use Rattle.edited_unit_laws.proofs.ListLemmas.{In}
 
 -- no element stands again behind itself
@@ -84,6 +83,3 @@ pub mapped_at : {X Y : Type 0} (f : X → Y) (xs : List X) (k : ℕ) (y : Y) →
 mapped_at f [] k y e = absurd (none-some y e)
 mapped_at f (x ∷ xs) zero y e = (x, sym (same_Some (f x) y e), refl)
 mapped_at f (x ∷ xs) (suc k) y e = mapped_at f xs k y e
-
-pub pos_is : (p q : Pos) → p.file ≡ q.file → p.at ≡ q.at → p ≡ q
-pos_is p q f e = λ i. record { file = f i; at = e i }

@@ -7,6 +7,7 @@ use Rattle.std.proofs.lemmas.Bool.{cases_Bool, cases_lt, both_ways, eq-eqb, eqb-
 use Rattle.std.proofs.lemmas.Option.{same_Some}
 use Rattle.cs_base.specs.declared.positions.Part.{Part}
 use Rattle.cs_base.specs.Limits.{most_bytes}
+use Rattle.cs_base.proofs.ListLemmas.{any_at, front_none as nil_left, nil_behind as nil_right}
 use Rattle.source_files.specs.Files.{Found, Lines, Absent, Unopened, Opened, Made, Entry, entry, Table, opened_bytes, more_bytes, bytes_opened}
 use Rattle.source_files.specs.KeptFiles.{KeptValue, kept, kept_bytes, kept_in, kept_at}
 use Rattle.include_tree.specs.PseudoFiles.{is_pseudo}
@@ -20,7 +21,7 @@ use Rattle.analysis.specs.Below.eclass_map.Chain.{here}
 use Rattle.rename_rules.specs.Offences.{large_place, full_place, too_large_places}
 use Rattle.rename_rules.specs.Runs.{runs, is_edited, new_size, new_sizes, size_of, kept_size, kept_sizes, new_size_of_all}
 use Rattle.rename_meaning.specs.Allowed.{IsAllowed}
-use Rattle.edited_unit_laws.proofs.ListLemmas.{In, any_at, nil_left, nil_right}
+use Rattle.edited_unit_laws.proofs.ListLemmas.{In}
 use Rattle.rename_meaning.proofs.NoneLemmas.{NoneStand, none_stand, writable}
 use Rattle.rename_meaning.specs.Limits.{EditedFilesAreWithinLimits}
 use Rattle.rename_meaning.proofs.FoundLemmas.{AreReal, IsReal, analysis_real}

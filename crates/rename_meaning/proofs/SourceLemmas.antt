@@ -5,9 +5,11 @@ use Rattle.std.specs.Option.{option_map, option_and_then}
 use Rattle.std.proofs.lemmas.Bool.{cases_Bool, both_ways, eq-eqb, eqb-true}
 use Rattle.std.proofs.lemmas.Option.{none-some, same_Some}
 use Rattle.cs_base.specs.declared.positions.Part.{Part}
+use Rattle.cs_base.proofs.ListLemmas.{any_at}
 use Rattle.source_files.specs.Files.{Source, Entry}
 use Rattle.source_files.specs.KeptFiles.{KeptValue, kept_in, kept_at}
 use Rattle.source_files.specs.Tables.{paths_in, HasEachOnce}
+use Rattle.source_files.proofs.KeptLemmas.{path_in as path_of_entry}
 use Rattle.part_respell.specs.Respelled.{respelled}
 use Rattle.offences.specs.First.{IsAmong}
 use Rattle.rename_rules.specs.Runs.{runs, file_of, is_edited}
@@ -16,8 +18,8 @@ use Rattle.analysis.specs.Analysed.{Analysed}
 use Rattle.rename_meaning.specs.Allowed.{IsAllowed}
 use Rattle.rename_meaning.proofs.CharacterLemmas.{character_file}
 use Rattle.rename_meaning.proofs.DirectiveLemmas.{in_drop}
-use Rattle.edited_unit_laws.proofs.ListLemmas.{In, any_at}
-use Rattle.offences.proofs.PlaceLemmas.{one_place, path_of_entry, kept_of, kept_there}
+use Rattle.edited_unit_laws.proofs.ListLemmas.{In}
+use Rattle.offences.proofs.PlaceLemmas.{one_place, kept_of, kept_there}
 use Rattle.rename_meaning.proofs.NoneLemmas.{none_stand, no_line}
 use Rattle.rename_meaning.proofs.KeptFileLemmas.{respelled_same}
 use Rattle.rename_meaning.proofs.MemberOrderLemmas.{StandTogether, members_together}

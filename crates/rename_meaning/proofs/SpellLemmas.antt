@@ -50,12 +50,6 @@ spelled-alike members name (o ∷ os) (p ∷ ps) (c ∷ text) e f alike =
     let rest = spelled-alike members name os ps text (omega (arith, e)) (omega (arith, f)) (record { each = λ k x y d at also. alike.each (suc k) x y d at also }) in
     rw (alike.each 0 o p c refl refl, rest) refl
 
--- an origin of a file
-pub origin_in : (file at n k : ℕ) → k < n → slice_get (origins_from file at n) k ≡ Some (Some (pos file (at + k)))
-origin_in file at zero k less = absurd (omega arith)
-origin_in file at (suc n) zero less = let same : at + 0 ≡ at = omega arith in rw same refl
-origin_in file at (suc n) (suc k) less = let same : at + suc k ≡ at + 1 + k = omega arith in rw same (origin_in file (at + 1) n k (omega arith))
-
 -- no character of a text of a file comes from a member
 pub none_from : (members : List Part) (file at n : ℕ) → list_any (is_from members) (origins_from file at n) ≡ false
     → (k : ℕ) → k < n → member_over members (pos file (at + k)) ≡ None

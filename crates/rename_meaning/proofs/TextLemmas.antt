@@ -2,6 +2,7 @@
 -- identifiers of external linkage denote one entity exactly where they did.
 use Rattle.std.proofs.Common.{◌≡◌, ℕ, List, Some, sym, ap, ◌∙◌}
 use Rattle.cs_base.specs.declared.positions.Part.{Part}
+use Rattle.cs_base.proofs.OptionLemmas.{ok_same}
 use Rattle.analysis.specs.Below.eclass_map.ClassTable as classes
 use Rattle.ws_file.specs.Workspace.{WorkspaceValue}
 use Rattle.source_files.specs.Files.{Source}
@@ -13,7 +14,6 @@ use Rattle.edited_unit_laws.specs.Analyses.{renamed_analysis}
 use Rattle.analysis.specs.Changed.{denote_one}
 use Rattle.analysis.proofs.ClassLemmas.{part_held}
 use Rattle.rename_meaning.specs.Allowed.{IsAllowed}
-use Rattle.edited_unit_laws.proofs.AnalysedUnitLemmas.{ok_same}
 use Rattle.rename_meaning.specs.KeptUnits.{change}
 use Rattle.rename_meaning.proofs.DenotingLemmas.{renamed_names_denote_alike}
 use Rattle.rename_meaning.proofs.KeptUnitLemmas.{texts_are_renamed_where_named}
@@ -57,5 +57,5 @@ respelled_files_keep_external_names = λ source now ws a table part members name
     let allowed_ = allowed source ws a table part members name path line column h named in
     let anew : AnalysisValue = renamed_analysis (change a members name) a in
     let same : anew ≡ b =
-    ok_same {E = UnitFault} anew b (sym (respelled_files_have_renamed_analysis source now ws a table part members name path line column h named r) ∙ is) in
+    ok_same {D = UnitFault} anew b (sym (respelled_files_have_renamed_analysis source now ws a table part members name path line column h named r) ∙ is) in
     ap (λ (v : AnalysisValue). denote_one v m j n k) (sym same) ∙ renamed_names_denote_alike d members name allowed_ m j n k

@@ -39,7 +39,6 @@ use Rattle.rename_meaning.specs.Allowed.{IsAllowed}
 use Rattle.rename_meaning.proofs.LinkedNameLemmas.{all_listed, named_token}
 use Rattle.rename_meaning.proofs.NoneLemmas.{gnu_kept}
 use Rattle.rename_meaning.proofs.ReadNameLemmas.{names_identify}
-use Rattle.rename_rules.specs.Below.same_readings.Readings.{reads_so}
 
 -- ---- by each standard
 
@@ -103,7 +102,7 @@ module _ (a : Analysed) (members : List Part) (name : List ℕ) (h : IsAllowed a
     | inl gnu ↦
         let kept = gnu_kept a members name h u i gnu in
         identifier_at u.text.toks u.bound.names n j
-        (and_parts (are_identifiers u.text.toks u.bound.names) (reads_so _ u.tree u.bound) kept).0
+        (and_parts (are_identifiers u.text.toks u.bound.names) _ kept).0
     | inr iso_ ↦
         let is = read_by_edition u iso_ is_read in
         let one = all_at (λ (m : Name). (is_identifier (base_at (iso (edition u.standard)) u.text.toks m.index) ≡ true) × (is_identifier (base_at (iso (edition u.standard)) u.text.toks m.entity) ≡ true)) u.bound.names

@@ -8,16 +8,16 @@ use Rattle.std.specs.Option.{is_none}
 use Rattle.std.proofs.lemmas.List.{length-replicate}
 use Rattle.cs_base.specs.declared.positions.Part.{Part}
 use Rattle.cs_base.specs.declared.positions.Pos.{Pos}
-use Rattle.cs_base.specs.declared.tokens.Kind.{Kind}
 use Rattle.cs_base.specs.declared.tokens.Kind.TheVariants.{Number, Str}
 use Rattle.cs_base.specs.Token.{Token}
 use Rattle.lexer.specs.Tokens.{tokens_of}
 use Rattle.lexer.specs.Characters.{double_quote}
 use Rattle.macro_body.specs.Below.paste_origin.Strings.{spellings_of, all_origins, string_text, string_origins, string_token}
-use Rattle.line_shape.specs.Signs.{is_identifier, is_punctuator, is_name}
+use Rattle.line_shape.specs.Signs.{is_name}
 use Rattle.macro_body.specs.Notes as expansion
 use Rattle.unit_steps.specs.Below.macro_expand.Renaming.{Renaming, occurs, spelled}
 use Rattle.macro_body.specs.Substitution.{put_in, line_number, path_string, path_text}
+use Rattle.macro_body.proofs.PredefinedLemmas.{length-digit_origins as digits_length}
 use Rattle.unit_steps.specs.Conditions.{answer_for}
 use Rattle.source_files.specs.Files.{SourceFile, Table}
 use Rattle.source_files.specs.Tables.{IsGrown}
@@ -45,7 +45,8 @@ use Rattle.rename_meaning.proofs.ApartLemmas.{parted_of, file_told, pasted_parte
 use Rattle.rename_meaning.proofs.KeptTokenLemmas.{other_same}
 use Rattle.edited_unit_laws.proofs.ListLemmas.{In}
 use Rattle.rename_meaning.proofs.OccurringLemmas.{file_tokens_occur, pasted_tokens_occur}
-use Rattle.edited_unit_laws.proofs.TracedLemmas.{source_of_kept, digits_length}
+use Rattle.rename_meaning.proofs.OccurLemmas.{other_occurs}
+use Rattle.edited_unit_laws.proofs.TracedLemmas.{source_of_kept}
 use Rattle.edited_unit_laws.proofs.AnalysedUnitLemmas.{IsUnit, unit_is}
 
 -- A string that begins with a quote, before and anew.
@@ -61,11 +62,6 @@ pub record IsKept (a : AnalysisValue) (r : Renaming) (t : Token) : Type 0 where
   pub each : length t.origins ≡ length t.text
   pub occurring : occurs (occurring_in a) t ≡ true
   pub stays : is_name t ≡ false → (spelled r t ≡ t.text) ⊎ IsQuoted r t
-
-other_occurs : (a : AnalysisValue) (k : Kind) (origins : List (Option Pos)) (text : List ℕ) → is_identifier k ≡ false → is_punctuator k ≡ false
-    → occurring_in a k origins text ≡ true
-unfolding occurring_in
-other_occurs a k origins text no_name no_sign = rw (no_name, no_sign) refl
 
 none_traced : (n : ℕ) → list_all (λ (o : Option Pos). is_none o) (replicate n None) ≡ true
 none_traced zero = refl

@@ -1,8 +1,9 @@
 -- Edits of files, one after another.
-use Rattle.std.proofs.Common.{◌≡◌, ℕ, ◌+◌, ◌-◌, ◌≤◌, List, [], ◌∷◌, ◌++◌, length, take, drop, refl, sym, ◌∙◌, arith, append_assoc, append-nil}
+use Rattle.std.proofs.Common.{◌≡◌, ℕ, ◌≤◌, List, [], ◌++◌, length, take, drop, sym, ◌∙◌, append_assoc, append-nil}
 use Rattle.std.specs.List.{flat_map}
 use Rattle.cs_base.specs.declared.positions.Part.{Part}
 use Rattle.cs_base.specs.Edit.{Edit}
+use Rattle.cs_base.proofs.PlaceLemmas.{none_left}
 use Rattle.analysis.specs.Analysis.{AnalysisValue}
 use Rattle.rename_rules.specs.Runs.{edit_of, edits_of, run_length, runs}
 use Rattle.rename_rules.proofs.RunLemmas.{runs-none}
@@ -17,10 +18,6 @@ edits_next a name rest edits more whole some added so_far =
     let later = flat_map (edit_of a name) (runs (drop (run_length rest) rest)) in
     let all : edits ++ (here ++ later) ≡ whole = rw (runs_at rest some) at so_far in
     rw added (append_assoc edits here later ∙ all)
-
-none_left : (rest : List Part) → length rest ≡ 0 → rest ≡ []
-none_left [] e = refl
-none_left (m ∷ rest) e = absurd (omega (arith, e))
 
 pub edits_end : (a : AnalysisValue) (name : List ℕ) (rest members : List Part) (edits : List Edit) → length rest ≡ 0
     → edits ++ flat_map (edit_of a name) (runs rest) ≡ flat_map (edit_of a name) (runs members) → edits ≡ edits_of a members name

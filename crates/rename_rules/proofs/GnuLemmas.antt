@@ -6,14 +6,16 @@ use Rattle.std.specs.Option.{option_map, option_map_or}
 use Rattle.std.specs.Str.{bytes_eq}
 use Rattle.std.proofs.lemmas.Bool.{cases_Bool, false≢true}
 use Rattle.std.proofs.lemmas.Grind.{flat_map-append}
-use Rattle.std.proofs.lemmas.List.{take_all, take_more}
-use Rattle.std.proofs.lemmas.Option.{none-some, same_Some, slice_get_within, slice_get-get_or, slice_get_past, get_or_from_slice_get}
+use Rattle.std.proofs.lemmas.List.{take_all}
+use Rattle.std.proofs.lemmas.Option.{none-some, same_Some, slice_get-get_or, slice_get_past}
 use Rattle.std.proofs.lemmas.Slice.Eq.{bytes_eq-Decides}
 use Rattle.cs_base.specs.declared.causes.Cause.TheVariants as cause
 use Rattle.cs_base.specs.declared.positions.Part.{Part}
 use Rattle.cs_base.specs.declared.positions.Pos.{Pos}
 use Rattle.cs_base.specs.Token.{Token}
 use Rattle.cs_base.specs.Units.{is_gnu}
+use Rattle.cs_base.proofs.BoolLemmas.{or_false}
+use Rattle.cs_base.proofs.ListLemmas.{any_there, next}
 use Rattle.analysis.specs.Below.source_files.Files.{Table}
 use Rattle.analysis.specs.Below.scope_bind.declared.bound.Name.{Name}
 use Rattle.analysis.specs.Below.scope_bind.Names.{entity_at}
@@ -40,24 +42,12 @@ there [] k less = absurd (omega (arith, less))
 there (x ∷ xs) zero less = (x, refl)
 there (x ∷ xs) (suc k) less = there xs k (omega (arith, less))
 
-pub any_there : {X : Type 0} (test : X → Bool) (xs : List X) (k : ℕ) (x : X) → slice_get xs k ≡ Some x → test x ≡ true → list_any test xs ≡ true
-any_there test [] k x at h = absurd (none-some x at)
-any_there test (y ∷ xs) zero x at h = let here : test y ≡ true = ap test (same_Some y x at) ∙ h in rw here refl
-any_there test (y ∷ xs) (suc k) x at h = elim (cases_Bool (test y)) [
-  | inl first ↦ rw first refl
-  | inr later ↦ rw later (any_there test xs k x at h)
-]
-
 any_append : {X : Type 0} (test : X → Bool) (xs ys : List X) → list_any test (xs ++ ys) ≡ (list_any test xs || list_any test ys)
 any_append test [] ys = refl
 any_append test (x ∷ xs) ys = elim (cases_Bool (test x)) [
   | inl first ↦ rw first refl
   | inr later ↦ rw later (any_append test xs ys)
 ]
-
-next : {X : Type 0} (xs : List X) (k : ℕ) (x : X) → slice_get xs k ≡ Some x → take (k + 1) xs ≡ take k xs ++ x ∷ []
-next {X = X} xs k x at =
-    take_more xs k x (slice_get_within xs k x at) ∙ ap (λ (y : X). take k xs ++ y ∷ []) (get_or_from_slice_get xs k x x at)
 
 pub none_more : {X : Type 0} (test : X → Bool) (xs : List X) (k : ℕ) (x : X) → slice_get xs k ≡ Some x → list_any test (take k xs) ≡ false → test x ≡ false
     → list_any test (take (k + 1) xs) ≡ false
@@ -216,10 +206,6 @@ or_known : (a b : Bool) → (b ≡ true → a ≡ true) → a ≡ (a || b)
 or_known true b h = refl
 or_known false true h = h refl
 or_known false false h = refl
-
-or_false : (b : Bool) → b ≡ (b || false)
-or_false true = refl
-or_false false = refl
 
 -- what is known is so already
 pub add_known : (toks : List Token) (text : List ℕ) → list_any (λ (t : Token). bytes_eq t.text text) toks ≡ true → AddTexts toks (text ∷ []) toks

@@ -1,5 +1,5 @@
 -- What a table of spellings tells of tokens, and all tokens together.
-use Rattle.std.proofs.Common.{◌≡◌, ℕ, Bool, List, [], ◌∷◌, ◌++◌, Option, Some, None, slice_get, refl, sym, ap, ◌∙◌}
+use Rattle.std.proofs.Common.{◌≡◌, ℕ, Bool, List, [], ◌++◌, Option, Some, None, slice_get, refl, sym, ap, ◌∙◌}
 use Rattle.std.specs.Prelude.{◌&&◌, if◌then◌else◌}
 use Rattle.std.specs.List.{flat_map, list_any}
 use Rattle.std.specs.Option.{option_map_or}
@@ -9,6 +9,7 @@ use Rattle.cs_base.specs.declared.causes.Cause.TheVariants as cause
 use Rattle.cs_base.specs.declared.positions.Part.{Part}
 use Rattle.cs_base.specs.declared.positions.Pos.{Pos}
 use Rattle.cs_base.specs.Token.{Token}
+use Rattle.cs_base.proofs.ListLemmas.{flat_map_same}
 use Rattle.analysis.specs.Below.c_types.declared.lists.Range.{Range}
 use Rattle.analysis.specs.Analysis.{AnalysisValue, UnitAnalysis}
 use Rattle.analysis.specs.BroughtNumbers.{all_brought}
@@ -46,10 +47,6 @@ all_occurring a members name toks w x y z same f g h =
     rw (← same) (rw all (then_both a.table (stand files ++ stand numbers) (stand pasted) w y z (then_both a.table (stand files) (stand numbers) w x y f g) h))
 
 -- ---- bare names
-
-flat_map_same : {X Y : Type 0} (f g : X → List Y) (xs : List X) → ((x : X) → f x ≡ g x) → flat_map f xs ≡ flat_map g xs
-flat_map_same f g [] same = refl
-flat_map_same {Y = Y} f g (x ∷ xs) same = ap (λ (ys : List Y). ys ++ flat_map f xs) (same x) ∙ ap (λ (ys : List Y). g x ++ ys) (flat_map_same f g xs same)
 
 option_same : {X Y : Type 0} (f g : X → List Y) (r : Option X) → ((x : X) → f x ≡ g x) → option_map_or f r [] ≡ option_map_or g r []
 option_same f g None same = refl

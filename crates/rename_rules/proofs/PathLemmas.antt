@@ -1,24 +1,25 @@
 -- The paths of the files of members: in order, and text.
-use Rattle.std.proofs.Common.{◌≡◌, ℕ, zero, suc, ◌+◌, ◌<◌, ◌≤◌, Bool, true, false, ◌&&◌, List, [], ◌∷◌, ◌++◌, length, take, drop, Option, Some, None, slice_get, inl, inr, refl, sym, ap, subst, ◌∙◌, arith, add-one, append-nil}
+use Rattle.std.proofs.Common.{◌≡◌, ℕ, zero, suc, ◌<◌, ◌≤◌, true, false, List, [], ◌∷◌, ◌++◌, length, take, drop, Option, Some, None, slice_get, inl, inr, refl, sym, ap, subst, ◌∙◌, arith, add-one, append-nil}
 use Rattle.std.specs.Prelude.{IsTrue, IsUtf8, slice_index_or}
-use Rattle.std.specs.List.{list_all, prefix_len}
+use Rattle.std.specs.List.{prefix_len}
 use Rattle.std.specs.List.Sorted.{IsStrictlySortedBy}
 use Rattle.std.specs.Option.{option_map, option_map_or, option_and_then}
-use Rattle.std.specs.Ordering.{nat_cmp, ordering_then, is_lt, is_eq}
+use Rattle.std.specs.Ordering.{nat_cmp, is_lt}
 use Rattle.std.specs.Str.{is_utf8}
 use Rattle.std.specs.Cmp.Lexicographic.{slice_cmp}
 use Rattle.std.specs.declared.cmp.Ordering.{Ordering}
 use Rattle.std.specs.declared.cmp.Ordering.TheVariants.{Less, Equal, Greater}
-use Rattle.std.proofs.lemmas.Bool.{cases_Bool, eq-eqb, eqb-true, and_parts}
+use Rattle.std.proofs.lemmas.Bool.{cases_Bool, eq-eqb, eqb-true}
 use Rattle.std.proofs.lemmas.Cmp.{nat_list_cmp_total}
 use Rattle.std.proofs.lemmas.Map.Keys.{Less-from_sorted, sorted_tail}
-use Rattle.std.proofs.lemmas.Map.Text.{is_eq-slice_cmp}
 use Rattle.std.proofs.lemmas.Option.{same_Some, slice_get_within}
 use Rattle.std.proofs.lemmas.Str.{IsUtf8-from_is_utf8}
 use Rattle.cs_base.specs.declared.positions.Part.{Part}
 use Rattle.cs_base.specs.declared.positions.Pos.{Pos}
 use Rattle.cs_base.specs.Edit.{Edit, edit, comes_before, comes_last}
-use Rattle.cs_base.proofs.FileMapLemmas.{bytes_eq-equal}
+use Rattle.cs_base.proofs.OrderLemmas.{first_decides, tied}
+use Rattle.cs_base.proofs.ListLemmas.{passes_at as all_at}
+use Rattle.cs_base.proofs.NumberLemmas.{one-add}
 use Rattle.analysis.specs.Below.source_files.Files.{Entry, Table}
 use Rattle.analysis.specs.Below.source_files.KeptFiles.{KeptValue, kept, kept_bytes, kept_in, kept_at}
 use Rattle.analysis.specs.Below.source_files.Tables.{paths_in, HasEachOnce, AreText}
@@ -30,11 +31,6 @@ use Rattle.offences.proofs.PlaceLemmas.{one_place}
 use Rattle.rename_rules.specs.FileOrder.{IsBefore, AreByPath, ComeBehind, IsNext}
 
 -- ---- each path once
-
-all_at : {X : Type 0} (test : X → Bool) (xs : List X) (k : ℕ) (x : X) → list_all test xs ≡ true → slice_get xs k ≡ Some x → test x ≡ true
-all_at test [] k x h e = absurd (cc)
-all_at test (y ∷ xs) zero x h e = ap test (sym (same_Some y x e)) ∙ (and_parts (test y) (list_all test xs) h).0
-all_at test (y ∷ xs) (suc k) x h e = all_at test xs k x ((and_parts (test y) (list_all test xs) h).1) e
 
 -- ---- the path of a number
 
@@ -89,14 +85,6 @@ one_file a p q stand once cp cq same = by_files a p q (kept_at a.table p.file) (
 
 -- ---- members are in the order of the paths
 
-first_decides : (o other : Ordering) → ordering_then o other ≡ Less → (o ≡ Equal → ⊥) → o ≡ Less
-first_decides Less other h apart = refl
-first_decides Equal other h apart = absurd (apart refl)
-first_decides Greater other h apart = absurd (cc)
-
-tied : (xs ys : List ℕ) → slice_cmp nat_cmp xs ys ≡ Equal → xs ≡ ys
-tied xs ys e = bytes_eq-equal xs ys (sym (is_eq-slice_cmp xs ys) ∙ ap is_eq e)
-
 by_path_from : (a : AnalysisValue) (ms : List Part) → StandInFiles a → HasEachOnce a.table → ((k : ℕ) (m : Part) → slice_get ms k ≡ Some m → IsPart a m)
     → IsStrictlySortedBy (part_cmp a) ms → AreByPath a.table ms
 by_path_from a [] stand once parts sorted = tt
@@ -119,9 +107,6 @@ members_by_path a part ms stand once are = by_path_from a ms stand once (λ k m 
 abbrev IsAhead : Table → ℕ → List Part → Type 0
 IsAhead table file [] = Unit {0}
 IsAhead table file (m ∷ ms) = IsBefore table file m.start.file
-
-one-add : (n : ℕ) → 1 + n ≡ suc n
-one-add n = omega arith
 
 behind_run : (table : Table) (file : ℕ) (m : Part) (ms : List Part) → m.start.file ≡ file → AreByPath table (m ∷ ms)
     → IsAhead table file (drop (prefix_len (is_in file) ms) ms)

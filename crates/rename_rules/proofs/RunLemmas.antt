@@ -9,13 +9,14 @@ use Rattle.std.proofs.lemmas.Bool.{cases_Bool, cases_lt, eq-eqb, eqb-true, ltb-t
 use Rattle.std.proofs.lemmas.Map.Keys.{Less-from_sorted, sorted_tail}
 use Rattle.cs_base.specs.declared.positions.Part.{Part}
 use Rattle.cs_base.specs.declared.positions.Pos.{Pos}
+use Rattle.cs_base.proofs.NumberLemmas.{one-add}
+use Rattle.cs_base.proofs.PlaceLemmas.{pos_is as same_pos}
 use Rattle.analysis.specs.Below.eclass_map.Positions.{along}
 use Rattle.part_respell.specs.Order.{AreInOrder}
 use Rattle.analysis.specs.Analysis.{AnalysisValue}
 use Rattle.analysis.specs.Parts.{IsStart, IsPart, AreMembers, part_cmp}
 use Rattle.analysis.proofs.ListingLemmas.{in_one_file}
 use Rattle.rename_rules.specs.Runs.{with_member, runs, is_in, run_length, AreApart}
-use Rattle.analysis.proofs.Below.eclass_map.PartPlaces.{same_pos}
 
 -- ---- members of one file are apart
 
@@ -56,9 +57,6 @@ pub members_apart : (a : AnalysisValue) (part : Part) (ms : List Part) → AreMe
 members_apart a part ms are = apart_from a ms (λ k m at. (are.each k m at).is_part) are.sorted
 
 -- ---- a run of members
-
-one-add : (n : ℕ) → 1 + n ≡ suc n
-one-add n = omega arith
 
 run_in_order : (file from : ℕ) (n : Part) (ms : List Part) → n.start.file ≡ file → from ≤ n.start.at → AreApart (n ∷ ms)
     → AreInOrder file from (n ∷ take (prefix_len (is_in file) ms) ms)

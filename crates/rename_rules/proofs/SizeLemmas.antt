@@ -8,6 +8,7 @@ use Rattle.std.proofs.lemmas.List.{at_drop_more, at_drop_all, map-append}
 use Rattle.std.proofs.lemmas.Option.{same_Some, slice_get-get_or}
 use Rattle.cs_base.specs.declared.causes.Cause.TheVariants as cause
 use Rattle.cs_base.specs.declared.positions.Part.{Part}
+use Rattle.cs_base.proofs.PlaceLemmas.{none_left}
 use Rattle.analysis.specs.Below.eclass_map.ClassTable.{nowhere}
 use Rattle.analysis.specs.Below.source_files.Files.{Table, Entry, Absent, entry}
 use Rattle.analysis.specs.Below.source_files.KeptFiles.{kept_at}
@@ -117,10 +118,6 @@ first_next a name rest all x y z some so_far here last later =
     ap (λ (rs : List (List Part)). standing cause.TooLarge (flat_map (large_place a name) rs)) (runs_at rest some)
     ∙ map-append (offence cause.TooLarge) run others in
     so_far last (rw both (then_both a.table (standing cause.TooLarge run) (standing cause.TooLarge others) y z last here later))
-
-none_left : (rest : List Part) → length rest ≡ 0 → rest ≡ []
-none_left [] e = refl
-none_left (m ∷ rest) e = absurd (omega (arith, e))
 
 pub total_end : (a : AnalysisValue) (name : List ℕ) (rest : List Part) (total whole : ℕ) → length rest ≡ 0 → total ≤ most_size
     → min (total + new_sizes a name (runs rest)) most_size ≡ whole → total ≡ whole

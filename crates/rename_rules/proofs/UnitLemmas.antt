@@ -1,26 +1,28 @@
 -- Units, files and tokens, one after another.
-use Rattle.std.proofs.Common.{◌≡◌, ℕ, ◌+◌, ◌<◌, ◌≤◌, Bool, List, [], ◌∷◌, ◌++◌, length, take, drop, get_or, Option, Some, None, slice_get, refl, sym, ap, ◌∙◌, append_assoc, append-nil}
+use Rattle.std.proofs.Common.{◌≡◌, ℕ, ◌+◌, ◌<◌, ◌≤◌, Bool, List, [], ◌∷◌, ◌++◌, length, take, drop, get_or, Option, Some, None, slice_get, sym, ap, ◌∙◌, append_assoc, append-nil}
 use Rattle.std.specs.Prelude.{filter}
 use Rattle.std.specs.List.{flat_map}
 use Rattle.std.specs.Option.{option_map_or}
 use Rattle.std.proofs.lemmas.Grind.{flat_map-append}
-use Rattle.std.proofs.lemmas.List.{at_drop_more, at_drop_all, map-append, take_more}
+use Rattle.std.proofs.lemmas.List.{at_drop_all, map-append, take_more}
 use Rattle.std.proofs.lemmas.List.Elements.{filter-append}
 use Rattle.std.proofs.lemmas.Option.{slice_get_within, slice_get-get_or, get_or_from_slice_get}
 use Rattle.cs_base.specs.declared.causes.Cause.{Cause}
 use Rattle.cs_base.specs.declared.positions.Part.{Part}
 use Rattle.cs_base.specs.declared.positions.Pos.{Pos}
 use Rattle.cs_base.specs.Token.{Token, origin_at}
-use Rattle.analysis.specs.Below.source_files.Files.{Table, Entry, Absent, entry}
+use Rattle.analysis.specs.Below.source_files.Files.{Table}
 use Rattle.analysis.specs.Below.source_files.KeptFiles.{kept_at}
 use Rattle.analysis.specs.Analysis.{AnalysisValue, UnitAnalysis}
 use Rattle.analysis.specs.BroughtNumbers.{all_brought}
 use Rattle.analysis.specs.FileTokens.{file_tokens, kept_tokens as parted_tokens, table_tokens}
+use Rattle.analysis.proofs.TableLemmas.{parted-more}
 use Rattle.offences.specs.declared.firsts.Offence.{Offence}
 use Rattle.offences.specs.First.{offence, standing, FirstThen}
 use Rattle.rename_rules.specs.Tokens.{holders, pasted_tokens}
 use Rattle.offences.specs.Tokens.{file_toks, holds_member, kept_tokens}
 use Rattle.offences.proofs.FirstLemmas.{then_none, then_both, then_next}
+use Rattle.offences.proofs.UnitLemmas.{kept-more}
 
 -- ---- units
 
@@ -64,22 +66,6 @@ held_units_more p g units k u old out more at before added =
     ∙ ap (λ (ts : List Token). old ++ filter p ts) (sym toks)
 
 -- ---- files
-
-parted-more : (table : Table) (k : ℕ) → k < length table
-    → table_tokens k (drop k table) ≡ option_map_or parted_tokens (kept_at table k) [] ++ table_tokens (k + 1) (drop (k + 1) table)
-unfolding table_tokens
-parted-more table k within =
-    let d : Entry = entry [] Absent in
-    let found = slice_get-get_or table k d within in
-    at_drop_more (table_tokens k) table k d within ∙ rw found refl
-
-kept-more : (table : Table) (k : ℕ) → k < length table
-    → kept_tokens k (drop k table) ≡ option_map_or file_toks (kept_at table k) [] ++ kept_tokens (k + 1) (drop (k + 1) table)
-unfolding kept_tokens
-kept-more table k within =
-    let d : Entry = entry [] Absent in
-    let found = slice_get-get_or table k d within in
-    at_drop_more (kept_tokens k) table k d within ∙ rw found refl
 
 pub held_files_more : (p : Token → Bool) (table : Table) (k : ℕ) (out more whole : List Token) → k < length table
     → out ++ filter p (table_tokens k (drop k table)) ≡ whole → more ≡ out ++ filter p (option_map_or parted_tokens (kept_at table k) [])

@@ -18,6 +18,7 @@ use Rattle.gnu_lists.specs.declared.lists.Adjacent.{Adjacent}
 use Rattle.gnu_lists.specs.Lists.{Listed, listed_in}
 use Rattle.gnu_lists.specs.WholeWords.{holds_word}
 use Rattle.part_respell.specs.Respelled.{spelled}
+use Rattle.same_readings.specs.Whole.{goes_whole}
 use Rattle.analysis.specs.Analysis.{UnitAnalysis, AnalysisValue}
 use Rattle.analysis.specs.Changed.{Renaming, renamed_token}
 use Rattle.analysis.specs.GnuUnits.{begin_of}
@@ -106,9 +107,14 @@ gnu_offences a members name = flat_map (unit_offences members name (symbols a me
 abbrev pub are_identifiers : List Token → List Name → Bool
 are_identifiers toks names = list_all (λ (n : Name). option_map_or is_name (slice_get toks n.index) false) names
 
--- its tokens, renamed, are read to its tree and bound as it is, name for name
+-- One spelling becomes another in these tokens wherever it stands, or they are read to its tree and bound as it is, name for
+-- name: the one is said first, and is the cheaper one, since then the other holds.
+abbrev pub is_read_so : UnitAnalysis → List Token → Bool
+is_read_so u toks = goes_whole u.text.toks toks || reads_so toks u.tree u.bound
+
+-- so it is with its own tokens, renamed
 abbrev pub is_kept : Renaming → UnitAnalysis → Bool
-is_kept r u = are_identifiers u.text.toks u.bound.names && reads_so (map (renamed_token r) u.text.toks) u.tree u.bound
+is_kept r u = are_identifiers u.text.toks u.bound.names && is_read_so u (map (renamed_token r) u.text.toks)
 
 -- where a unit of GNU C begins that is not kept
 abbrev pub failing_by : Renaming → UnitAnalysis → List Pos

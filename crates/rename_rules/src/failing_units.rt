@@ -14,7 +14,7 @@ use crate::words_and_texts::has_gnu;
 use analysis::{Analysis, Name};
 use cs_base::{Cause, Memory, Pos, Tok};
 use offences::{Moves, Offence, class_moves, first_with, renamed_toks};
-use same_readings::reads_so;
+use same_readings::{goes_whole, reads_so};
 use std::alloc::Global;
 
 // `Syntax` where a unit of GNU C begins, if its tokens are read or bound otherwise behind these moves.
@@ -37,7 +37,8 @@ fn at_begin(
     }
 }
 
-// Whether the tokens of a unit are read to its tree behind these moves, and bound as it is.
+// Whether the tokens of a unit are read to its tree behind these moves, and bound as it is. They are where one spelling
+// becomes another wherever it stands, and nothing is read again then.
 fn is_kept(alloc: Global, a: &Analysis, moves: &Moves, unit: u32) -> Result<bool, Memory>
     requires start { 1 ≤ unit }
     requires end { unit ≤ length a.now.value.units }
@@ -49,6 +50,9 @@ fn is_kept(alloc: Global, a: &Analysis, moves: &Moves, unit: u32) -> Result<bool
         return Ok(false);
     }
     let renamed = renamed_toks(alloc, moves, toks)?;
+    if goes_whole(toks, &renamed) {
+        return Ok(true);
+    }
     let tree = a.tree(alloc, unit)?;
     reads_so(alloc, &renamed, &tree, bound)
 }
@@ -107,7 +111,7 @@ fn in_units(
 }
 
 /// `Syntax`: where each unit of GNU C begins whose tokens, once the members are respelled, are not read to its tree and bound as
-/// it is, name for name. They are read and bound again.
+/// it is, name for name. They are read and bound again, but where one spelling becomes another wherever it stands.
 pub fn failing(
     alloc: Global,
     renaming: &Renaming<'_>,

@@ -1,9 +1,9 @@
 -- What stays under a renaming, list by list.
-use Rattle.std.proofs.Common.{◌≡◌, ℕ, suc, List, [], ◌∷◌, map, refl, ap}
+use Rattle.std.proofs.Common.{◌≡◌, List, [], ◌∷◌, map, refl}
 use Rattle.cs_base.specs.Token.{Token}
-use Rattle.analysis.specs.Below.source_files.Files.{Table, Entry}
 use Rattle.analysis.specs.Analysis.{UnitAnalysis}
-use Rattle.analysis.specs.Changed.{Editing, renamed_token, renamed_unit_analysis, edited_from}
+use Rattle.analysis.specs.Changed.{renamed_token, renamed_unit_analysis}
+use Rattle.analysis.proofs.TableLemmas.{paths-from}
 use Rattle.renamed.specs.Staying.{RenamedTokensStay, EditedPathsStay, RenamedUnitsStay}
 
 -- what is the same of each element is so of the list
@@ -18,10 +18,6 @@ renamed_tokens_stay = λ r k. record {
   lines = map-stays (λ (t : Token). t.line) (renamed_token r) (λ t. refl) k.toks;
   direct = map-stays (λ (t : Token). t.direct) (renamed_token r) (λ t. refl) k.toks;
 }
-
-paths-from : (edit : Editing) (number : ℕ) (table : Table) → map (λ (e : Entry). e.path) (edited_from edit number table) ≡ map (λ (e : Entry). e.path) table
-paths-from edit number [] = refl
-paths-from edit number (e ∷ table) = ap (λ (paths : List (List ℕ)). e.path ∷ paths) (paths-from edit (suc number) table)
 
 pub edited_paths_stay : EditedPathsStay
 edited_paths_stay = λ edit table. paths-from edit 0 table

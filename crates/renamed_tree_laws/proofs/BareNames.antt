@@ -1,6 +1,6 @@
 -- The names that are read as no typedef names, though they are uses of nothing, are the bare names of the tree.
 use Rattle.std.proofs.Common.{ℕ, ◌+◌, ◌≡◌, Bool, true, false, ◌&&◌, if◌then◌else◌, ◌==◌, ◌%◌, List, [], ◌∷◌, ◌++◌, inl, inr, refl, ap, subst, arith}
-use Rattle.std.proofs.lemmas.Bool.{eqb-true, eq-eqb, and_parts}
+use Rattle.std.proofs.lemmas.Bool.{eqb-true, eq-eqb, and_parts, false≢true}
 use Rattle.c99_grammar.specs.declared.dialects.Edition.{Edition}
 use Rattle.cs_base.specs.Token.{Token}
 use Rattle.c99_tree.specs.Tree.{Forest, none, token, node}
@@ -12,7 +12,7 @@ use Rattle.c99_grammar.specs.Standard.{iso}
 use Rattle.c99_read.specs.State.{base_at, is_identifier}
 use Rattle.c_types.specs.Trees.{is_at}
 use Rattle.c_types.specs.Lists.{odd_tokens, even_tokens, name_in, bare_at, bare_in}
-use Rattle.tree_laws.proofs.Lookups.{false≢true, In}
+use Rattle.tree_laws.proofs.Lookups.{In}
 use Rattle.renamed_tree_laws.specs.Loose.{is_enclosed, AllLoose}
 use Rattle.renamed_tree_laws.proofs.LooseNames.{more_in}
 

@@ -1,6 +1,6 @@
 -- A parameter's declarator in parentheses whose first token is an identifier begins with this name.
 use Rattle.std.proofs.Common.{ℕ, zero, suc, ◌+◌, ◌≡◌, Bool, true, false, ◌&&◌, not, if◌then◌else◌, List, [], ◌∷◌, length, Ok, Err, nat_lt, refl, sym, ap, ◌∙◌}
-use Rattle.std.proofs.lemmas.Bool.{not-true}
+use Rattle.std.proofs.lemmas.Bool.{not-true, false≢true}
 use Rattle.c99_grammar.specs.declared.dialects.Dialect.TheVariants.{Iso}
 use Rattle.c99_grammar.specs.declared.dialects.Edition.{Edition}
 use Rattle.c99_tree.specs.Tree.{Forest, none, token, node, Node, Part, leaf, inner, put, lone}
@@ -16,7 +16,6 @@ use Rattle.c99_read.specs.Reading.{Goal, produce, Step, syntax, too_deep, and_th
 use Rattle.c99_grammar.specs.Starting.{starts}
 use Rattle.c_types.specs.Trees.{is_at}
 use Rattle.c_types.specs.Lists.{name_in}
-use Rattle.tree_laws.proofs.Lookups.{false≢true}
 use Rattle.tree_laws.proofs.Walked.{After, with_token, after_if, kept_by_item}
 use Rattle.tree_laws.proofs.Parts.{first_body, rest_of}
 use Rattle.renamed_tree_laws.proofs.Private.{Class, identifier, typedef_name}

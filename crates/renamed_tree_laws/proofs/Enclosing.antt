@@ -3,21 +3,21 @@ use Rattle.std.proofs.Common.{ℕ, ◌+◌, ◌≡◌, Bool, true, false, ◌&&�
 use Rattle.std.proofs.lemmas.Bool.{eqb-true, and_parts}
 use Rattle.c99_grammar.specs.declared.dialects.Edition.{Edition}
 use Rattle.cs_base.specs.Token.{Token}
+use Rattle.cs_base.proofs.BoolLemmas.{or_met as implied}
 use Rattle.c99_tree.specs.Tree.{Forest, none, token, node, Node, leaf, inner, put, lone, collapsed}
 use Rattle.c99_tree.specs.declared.production.Label.{Label}
 use Rattle.c99_tree.specs.declared.production.Production.{Production}
 use Rattle.c99_tree.specs.declared.production.Production.TheVariants.{TranslationUnit, Pdirect}
 use Rattle.c99_tree.specs.contracts.production.ProductionPartialEq.TheImpl.{ghosts}
+use Rattle.c99_tree.proofs.ProductionLemmas.{direct_is}
 use Rattle.c99_grammar.specs.Items.{Action, Alternative}
 use Rattle.c99_grammar.specs.Standard.{iso}
 use Rattle.c99_read.specs.State.{State, base_at, is_identifier, collapses, finished, acted, opened, closed}
 use Rattle.c99_read.specs.Reading.{produce, Step, steps_for, step, read_within, whole, at_first, tree_of, read_of}
 use Rattle.c_types.specs.Lists.{name_in}
 use Rattle.c_types.specs.Trees.{is_at}
-use Rattle.tree_laws.proofs.Lookups.{false≢true}
 use Rattle.tree_laws.proofs.Walked.{After, IsKept, fit_from, each_part, kept_within}
 use Rattle.tree_laws.proofs.Rules.{labelled}
-use Rattle.tree_laws.proofs.NameClasses.{implied}
 use Rattle.tree_laws.proofs.Forms.{after_is}
 use Rattle.renamed_tree_laws.specs.Loose.{is_enclosed}
 use Rattle.renamed_tree_laws.proofs.BareNames.{Encloses}
@@ -33,10 +33,6 @@ other_fits : (p : Production) (n : ℕ) (alternatives : List Alternative) → gh
 other_fits p n [] e = refl
 other_fits p n (a ∷ more) e =
     ap (λ c. (not (c && (n == 2)) || is_parenthesized a.body) && fit_from (fits p) (n + 1) more) e ∙ other_fits p (n + 1) more e
-
-direct_is : (p : Production) → ghosts.eq p Pdirect ≡ true → p ≡ Pdirect
-direct_is Pdirect e = refl
-direct_is _ e = absurd (false≢true e)
 
 second_is : (p : Production) (n : ℕ) → is_at (labelled p n) Pdirect 2 ≡ true → labelled p n ≡ labelled Pdirect 2
 second_is p n e =

@@ -4,6 +4,7 @@ use Rattle.std.proofs.lemmas.Bool.{false≢true, and_from}
 use Rattle.c99_grammar.specs.declared.dialects.Dialect.TheVariants.{Iso}
 use Rattle.c99_grammar.specs.declared.dialects.Edition.{Edition}
 use Rattle.cs_base.specs.Token.{Token}
+use Rattle.cs_base.proofs.BoolLemmas.{declarator_form as refuted}
 use Rattle.c99_tree.specs.Tree.{count_of}
 use Rattle.c99_tree.specs.declared.production.Label.{Label}
 use Rattle.c99_tree.specs.declared.production.Production.{Production}
@@ -37,11 +38,6 @@ no_name_of : (c t : Bool) → c ≡ false → (not c || not t) ≡ true
 no_name_of c t e = ap (λ x. not x || not t) e
 
 -- ---- A comma is no identifier
-
-refuted : (c d : Bool) → (not c || not d) ≡ true → c ≡ true → d ≡ false
-refuted true true h e = absurd (false≢true h)
-refuted true false h e = refl
-refuted false d h e = absurd (false≢true e)
 
 comma_case : (x y : Class) (i t : Bool) → (among comma y ≡ true → i ≡ false) → among comma x ≡ false → among comma (if i && t then x else y) ≡ true → i ≡ false
 comma_case x y true true h gone e = absurd (false≢true (sym gone ∙ e))

@@ -3,6 +3,7 @@ use Rattle.std.proofs.Common.{ℕ, zero, suc, ◌+◌, ◌≡◌, Bool, true, fa
 use Rattle.std.proofs.lemmas.Bool.{false≢true, and_parts, and_from, or_cases}
 use Rattle.c99_grammar.specs.declared.dialects.Dialect.{Dialect}
 use Rattle.cs_base.specs.Token.{Token}
+use Rattle.cs_base.proofs.BoolLemmas.{or_met as implied}
 use Rattle.c99_tree.specs.Tree.{Forest, none, token, node}
 use Rattle.c99_tree.specs.declared.production.Label.{Label}
 use Rattle.c99_tree.specs.declared.production.Production.{Production}
@@ -13,7 +14,6 @@ use Rattle.c99_read.specs.State.{State, base_at, is_identifier, class_at, last_i
 use Rattle.c99_read.specs.Reading.{Goal, produce, repeat, Step, and_then, syntax, too_deep, take_one, at_end, enter, may, step, pick, read_within}
 use Rattle.c99_grammar.specs.Starting.{asks}
 use Rattle.c99_read.proofs.Alike.{swapped}
-use Rattle.tree_laws.proofs.NameClasses.{implied}
 use Rattle.renamed_tree_laws.specs.Along.{along_rest, along_item, along_first, along_within}
 use Rattle.renamed_tree_laws.proofs.Private.{Class, identifier, typedef_name, colons, fronts, covers}
 use Rattle.renamed_tree_laws.proofs.Bases.{base_so}

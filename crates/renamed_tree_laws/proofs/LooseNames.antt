@@ -3,7 +3,7 @@ use Rattle.std.proofs.Common.{ℕ, ◌+◌, ◌≡◌, Bool, true, false, ◌&&�
 use Rattle.std.specs.Prelude.{find, IfSome}
 use Rattle.std.specs.List.{list_any}
 use Rattle.std.specs.Option.{option_map_or}
-use Rattle.std.proofs.lemmas.Bool.{and_parts, and_from}
+use Rattle.std.proofs.lemmas.Bool.{and_parts, and_from, false≢true}
 use Rattle.c99_grammar.specs.declared.dialects.Edition.{Edition}
 use Rattle.cs_base.specs.Token.{Token}
 use Rattle.c99_tree.specs.Tree.{Forest, none, token, node}
@@ -13,7 +13,7 @@ use Rattle.c99_tree.specs.declared.production.Production.TheVariants.{ExtRest, F
 use Rattle.c_types.specs.declared.lists.Range.{Range}
 use Rattle.c_types.specs.Trees.{last_token, name_below}
 use Rattle.c_types.specs.Declarations.{alike}
-use Rattle.tree_laws.proofs.Lookups.{false≢true, In, find_same, found_passes, found_in, any_none}
+use Rattle.tree_laws.proofs.Lookups.{In, find_same, found_passes, found_in, any_none}
 use Rattle.tree_laws.specs.RenamedNames.{StaysApart}
 use Rattle.tree_laws.proofs.Outline.{Entry, Outline, is_listing, stepped, copies, kept_entries, entries_in, begun, named_entries, in_declaration, in_parameter, entries_after, ended, outlined, is_open, typedef_among}
 use Rattle.renamed_tree_laws.specs.Loose.{is_hidden, StaysWhole}

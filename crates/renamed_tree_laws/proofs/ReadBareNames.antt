@@ -2,6 +2,7 @@
 use Rattle.std.proofs.Common.{ℕ, suc, ◌≡◌, List, [], ◌∷◌, Some, Ok, slice_get, inl, inr, ap, subst}
 use Rattle.std.specs.List.{Contains}
 use Rattle.std.proofs.lemmas.Option.{slice_get_within, get_or_from_slice_get}
+use Rattle.std.proofs.lemmas.Bool.{false≢true}
 use Rattle.c99_grammar.specs.declared.dialects.Edition.{Edition}
 use Rattle.cs_base.specs.Token.{Token}
 use Rattle.c99_tree.specs.Tree.{Node}
@@ -11,7 +12,6 @@ use Rattle.c_types.specs.Declarations.{Facts}
 use Rattle.name_chains.specs.Frames.{outermost}
 use Rattle.c_types.specs.Lists.{bare_in}
 use Rattle.scope_bind.specs.Bound.{Bound, facts_of, binding_of}
-use Rattle.tree_laws.proofs.Lookups.{false≢true}
 use Rattle.tree_laws.proofs.HeldNames.{bound_is}
 use Rattle.renamed_tree_laws.specs.Loose.{AllLoose}
 use Rattle.renamed_tree_laws.specs.TreesAlike.{LooseNamesAreBare}

@@ -3,6 +3,7 @@ use Rattle.std.proofs.Common.{ℕ, ◌+◌, ◌-◌, ◌*◌, ◌≡◌, Bool, t
 use Rattle.std.proofs.lemmas.Bool.{false≢true, and_parts, not-true}
 use Rattle.c99_grammar.specs.declared.dialects.Dialect.{Dialect}
 use Rattle.cs_base.specs.Token.{Token}
+use Rattle.cs_base.proofs.BoolLemmas.{or_met as implied}
 use Rattle.c99_tree.specs.Tree.{Node}
 use Rattle.c99_tree.specs.declared.production.Production.{Production}
 use Rattle.c99_tree.specs.declared.production.Production.TheVariants.{TranslationUnit, Main, Primary, Params, Pdirect}
@@ -12,7 +13,6 @@ use Rattle.c99_grammar.specs.Standard.{grammar}
 use Rattle.c99_read.specs.State.{State, base_at, is_identifier, is_typedef_at, class_at}
 use Rattle.c99_read.specs.Reading.{Goal, produce, Step, steps_for, read_within, whole, at_first, tree_of, read_of}
 use Rattle.c99_read.proofs.Alike.{swapped}
-use Rattle.tree_laws.proofs.NameClasses.{implied}
 use Rattle.renamed_tree_laws.specs.Along.{all_along}
 use Rattle.renamed_tree_laws.specs.Respelled.{is_bare_so, is_kind_so, is_named_so, is_token_so, is_node_so, IsRespelled}
 use Rattle.renamed_tree_laws.specs.ReadAlike.{RespelledTextsReadAlike, TextsOfOneKindReadAlike}

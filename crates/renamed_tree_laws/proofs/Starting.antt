@@ -4,6 +4,7 @@ use Rattle.std.specs.Option.{option_map_or}
 use Rattle.std.proofs.lemmas.Bool.{false≢true, and_parts, and_from, or_cases, not-true}
 use Rattle.c99_grammar.specs.declared.dialects.Dialect.{Dialect}
 use Rattle.cs_base.specs.Token.{Token}
+use Rattle.cs_base.proofs.BoolLemmas.{or_met as implied}
 use Rattle.c99_tree.specs.declared.production.Label.{Label}
 use Rattle.c99_tree.specs.declared.production.Production.{Production}
 use Rattle.c99_grammar.specs.Classes.{among}
@@ -13,7 +14,6 @@ use Rattle.c99_read.specs.State.{State, base_at, is_identifier, class_at, acted,
 use Rattle.c99_grammar.specs.TokenClasses.{base_class}
 use Rattle.c99_read.specs.Reading.{Goal, produce, repeat, Step, enter, may, step, pick, run, read_within}
 use Rattle.c99_grammar.specs.Starting.{asks}
-use Rattle.tree_laws.proofs.NameClasses.{implied}
 use Rattle.renamed_tree_laws.specs.Along.{along_rest, along_item, along_first, along_goal, along_within}
 use Rattle.renamed_tree_laws.proofs.Private.{Class, identifier, typedef_name, end_class, no_class, colons, fronts, covers}
 use Rattle.renamed_tree_laws.proofs.Twins.{plain_is, plain_class, class_so, Same}

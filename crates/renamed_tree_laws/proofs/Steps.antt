@@ -9,6 +9,7 @@ use Rattle.c99_grammar.specs.Classes.{among}
 use Rattle.c99_grammar.specs.Standard.{grammar}
 use Rattle.c99_read.specs.State.{State, Names, base_at, is_identifier, is_typedef_at, class_at, is_declarator, with_head, head_closed, names_opened, names_closed, opened, closed}
 use Rattle.c99_read.specs.Reading.{Stop, syntax, too_deep, Step, and_then, take_one, at_end, enter}
+use Rattle.c99_read.proofs.ReadLemmas.{opened_text as opened_toks}
 use Rattle.renamed_tree_laws.specs.Respelled.{Declaration}
 use Rattle.renamed_tree_laws.proofs.Private.{Class, typedef_name}
 
@@ -108,10 +109,6 @@ opened_scopes p n s = opened_names p s.names
 pub opened_at : (p : Production) (n : ℕ) (s : State) → (opened p n s).at ≡ s.at
 unfolding opened
 opened_at p n s = refl
-
-opened_toks : (p : Production) (n : ℕ) (s : State) → (opened p n s).toks ≡ s.toks
-unfolding opened
-opened_toks p n s = refl
 
 closed_names : (p : Production) (names : Names) → (names_closed p names).scopes ≡ names.scopes
 closed_names p names = by (is_declarator p)

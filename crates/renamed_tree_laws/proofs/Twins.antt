@@ -3,11 +3,11 @@ use Rattle.std.proofs.Common.{ℕ, ◌≡◌, Bool, true, false, ◌&&◌, ◌||
 use Rattle.std.proofs.lemmas.Bool.{false≢true}
 use Rattle.c99_grammar.specs.declared.dialects.Dialect.{Dialect}
 use Rattle.cs_base.specs.Token.{Token}
+use Rattle.cs_base.proofs.BoolLemmas.{or_met as implied}
 use Rattle.c99_grammar.specs.Classes.{among}
 use Rattle.c99_grammar.specs.Standard.{grammar}
 use Rattle.c99_read.specs.State.{State, base_at, is_identifier, is_typedef_at, class_at}
 use Rattle.c99_read.proofs.Alike.{swapped}
-use Rattle.tree_laws.proofs.NameClasses.{implied}
 use Rattle.renamed_tree_laws.specs.Respelled.{Declaration}
 use Rattle.renamed_tree_laws.proofs.Private.{Class, identifier, typedef_name, covers}
 use Rattle.renamed_tree_laws.proofs.Bases.{base_so, base_is}

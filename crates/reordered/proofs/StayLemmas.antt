@@ -1,13 +1,9 @@
 -- What stays in a new order.
-use Rattle.std.proofs.Common.{◌≡◌, ℕ, suc, List, [], ◌∷◌, map, refl, ap, ◌∙◌}
+use Rattle.std.proofs.Common.{map, ap, ◌∙◌}
 use Rattle.analysis.specs.Below.source_files.Files.{Table, Entry}
-use Rattle.analysis.specs.Changed.{Editing, edited_from}
+use Rattle.analysis.proofs.TableLemmas.{paths-from}
 use Rattle.reordered.specs.Reordered.{reordered_bytes}
 use Rattle.reordered.specs.Staying.{ReorderedPathsStay, ReorderedStandardsStay}
-
-paths-from : (edit : Editing) (number : ℕ) (table : Table) → map (λ (e : Entry). e.path) (edited_from edit number table) ≡ map (λ (e : Entry). e.path) table
-paths-from edit number [] = refl
-paths-from edit number (e ∷ table) = ap (λ (paths : List (List ℕ)). e.path ∷ paths) (paths-from edit (suc number) table)
 
 pub reordered_paths_stay : ReorderedPathsStay
 reordered_paths_stay = λ members order old new is.

@@ -5,6 +5,7 @@ use Rattle.std.specs.Str.{bytes_eq}
 use Rattle.std.proofs.lemmas.Bool.{ltb-true, lt-ltb}
 use Rattle.std.proofs.lemmas.Option.{slice_get_past}
 use Rattle.cs_base.specs.Token.{Token}
+use Rattle.cs_base.proofs.BoolLemmas.{if_false, no_case}
 use Rattle.c99_tree.specs.Names.{latest}
 use Rattle.c99_tree.specs.Tree.{Forest, none, token, node, Node, node_of, leaf, inner, put, lone, collapsed}
 use Rattle.c99_tree.specs.declared.production.Production.{Production}
@@ -24,7 +25,7 @@ use Rattle.reordered_text_laws.proofs.Before.{Declaration, AllIn, AllScopes, Tok
 
 -- ---- Children
 
-joined-none : (f : Forest) → joined f none ≡ f
+pub joined-none : (f : Forest) → joined f none ≡ f
 joined-none none = refl
 joined-none (token i rest) = ap (token i) (joined-none rest)
 joined-none (node l first under rest) = ap (node l first under) (joined-none rest)
@@ -62,13 +63,6 @@ finished-untold p n = by (collapses p)
     by false = refl
 
 -- ---- Classes
-
-no_case : (b : Bool) → (b ≡ true → ⊥) → b ≡ false
-no_case true f = absurd (f refl)
-no_case false f = refl
-
-if_false : {A : Type 0} (c : Bool) (x y : A) → c ≡ false → (if c then x else y) ≡ y
-if_false c x y e = ap (λ b. if b then x else y) e
 
 module _ (g : Grammar) (toks : List Token) (alone : AreAlone g toks) where
   abbrev class_of : ℕ → Class

@@ -1,8 +1,9 @@
 -- A text whose names agree with a tree is read to it, where the same classes are.
-use Rattle.std.proofs.Common.{ℕ, zero, suc, ◌≡◌, Bool, true, false, ◌&&◌, ◌||◌, not, List, length, refl, sym, ap, ◌∙◌, inl}
+use Rattle.std.proofs.Common.{ℕ, zero, suc, ◌≡◌, Bool, false, ◌||◌, not, List, length, refl, sym, ap, ◌∙◌, inl}
 use Rattle.std.proofs.lemmas.Bool.{or_parts}
 use Rattle.c99_grammar.specs.declared.dialects.Edition.{Edition}
 use Rattle.cs_base.specs.Token.{Token}
+use Rattle.cs_base.proofs.BoolLemmas.{and_none as and_false}
 use Rattle.c99_tree.specs.Tree.{Forest, none, token, node}
 use Rattle.c99_tree.specs.declared.production.Label.{Label}
 use Rattle.c99_tree.specs.declared.production.Production.TheVariants.{TranslationUnit, Main}
@@ -14,10 +15,6 @@ use Rattle.reordered_text_laws.specs.Fronted.{fronted, used, up, dirty, has_some
 use Rattle.reordered_text_laws.proofs.FrontClasses.{base_up}
 use Rattle.reordered_text_laws.proofs.FrontTop.{front_kept, front_gone}
 use Rattle.reordered_text_laws.proofs.FrontOutlines.{agrees_behind}
-
-pub and_false : (a b : Bool) → b ≡ false → (a && b) ≡ false
-and_false true b e = e
-and_false false b e = refl
 
 -- where none of the tokens stands, none strays
 none_strays : (some : ℕ → Bool) (l : Label) (f : Forest) → has_some some f ≡ false → dirty some l f ≡ false

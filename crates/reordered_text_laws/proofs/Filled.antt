@@ -2,6 +2,7 @@
 use Rattle.std.proofs.Common.{ℕ, suc, zero, ◌+◌, ◌≡◌, Bool, true, false, ◌&&◌, ◌||◌, not, if◌then◌else◌, List, [], ◌∷◌, ◌++◌, Option, None, Some, nat_lt, refl, sym, ap, subst, ◌∙◌}
 use Rattle.std.specs.List.{list_all}
 use Rattle.std.proofs.lemmas.Bool.{false≢true, and_parts, and_from}
+use Rattle.cs_base.proofs.BoolLemmas.{or_met as must_have}
 use Rattle.c99_grammar.specs.declared.dialects.Dialect.TheVariants.{Iso}
 use Rattle.c99_grammar.specs.declared.dialects.Edition.{Edition}
 use Rattle.c99_tree.specs.Tree.{Forest, none, token, node, Node, node_of, lone, collapsed}
@@ -98,10 +99,6 @@ filled_child p n has xs (Some t) e h w = by (collapses p)
 filled_one : (classes : List Class) (c : Bool) (i : ℕ) (more : List ℕ) → Filled (if c then Some (taken (token i none) more) else None)
 filled_one classes true i more = refl
 filled_one classes false i more = tt
-
-must_have : (e h : Bool) → (not e || h) ≡ true → e ≡ true → h ≡ true
-must_have true h k w = k
-must_have false h k w = absurd (false≢true w)
 
 module _ (g : Grammar) (tells : Tells g ending) (class_of : ℕ → Class) where
   abbrev Fills : ℕ → Type 0

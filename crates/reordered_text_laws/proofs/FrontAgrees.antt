@@ -5,6 +5,7 @@ use Rattle.std.specs.Option.{option_map_or, option_or}
 use Rattle.std.proofs.lemmas.Bool.{false≢true, and_parts, or_parts}
 use Rattle.c99_grammar.specs.declared.dialects.Edition.{Edition}
 use Rattle.cs_base.specs.Token.{Token}
+use Rattle.cs_base.proofs.BoolLemmas.{no_case}
 use Rattle.c99_tree.specs.Tree.{Forest, none, token, node}
 use Rattle.c99_tree.specs.declared.production.Label.{Label}
 use Rattle.c99_tree.specs.declared.production.Production.{Production}
@@ -20,10 +21,6 @@ use Rattle.reordered_text_laws.specs.Fronted.{fronted, used, up, raised, has_lea
 use Rattle.reordered_text_laws.proofs.FrontNames.{up_option}
 use Rattle.reordered_text_laws.proofs.FrontClasses.{eq_up, base_up, other_way}
 use Rattle.reordered_text_laws.proofs.FrontSteps.{lt_up}
-
-no_case : (b : Bool) → (b ≡ true → ⊥) → b ≡ false
-no_case true f = absurd (f refl)
-no_case false f = refl
 
 -- ---- Trees
 

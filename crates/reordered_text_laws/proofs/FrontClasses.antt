@@ -5,6 +5,7 @@ use Rattle.std.specs.Option.{option_map_or}
 use Rattle.std.specs.Str.{bytes_eq}
 use Rattle.std.proofs.lemmas.Bool.{false≢true}
 use Rattle.cs_base.specs.Token.{Token}
+use Rattle.cs_base.proofs.BoolLemmas.{if_false, no_case}
 use Rattle.c99_tree.specs.Names.{latest, is_typedef}
 use Rattle.c99_grammar.specs.declared.classes.Class.TheVariants.{End, NoClass, Identifier, TypedefName}
 use Rattle.c99_grammar.specs.Standard.{Grammar}
@@ -14,10 +15,6 @@ use Rattle.reordered_text_laws.specs.Fronted.{fronted, used, Fits, up}
 use Rattle.reordered_text_laws.proofs.Before.{Declaration}
 use Rattle.reordered_text_laws.proofs.FrontNames.{up_in, front_one, up_scopes, IsOpen}
 use Rattle.reordered_text_laws.proofs.CleanNames.{AllIn, AllScopes}
-
-no_case : (b : Bool) → (b ≡ true → ⊥) → b ≡ false
-no_case true f = absurd (f refl)
-no_case false f = refl
 
 pub eq_up : (a b : ℕ) → (up a == up b) ≡ (a == b)
 eq_up a b = by (a == b) refl
@@ -35,9 +32,6 @@ empty_is (x ∷ w) e = absurd (false≢true e)
 pub other_way : (w : List ℕ) → bytes_eq [] w ≡ false → bytes_eq w [] ≡ false
 other_way [] e = absurd (false≢true (sym e))
 other_way (x ∷ w) e = refl
-
-if_false : {A : Type 0} (c : Bool) (x y : A) → c ≡ false → (if c then x else y) ≡ y
-if_false c x y e = ap (λ b. if b then x else y) e
 
 module _ (z : List Token) where
   pub base_up : (g : Grammar) (k : ℕ) → base_at g (fronted z) (up k) ≡ base_at g z k

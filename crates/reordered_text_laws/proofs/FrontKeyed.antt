@@ -8,6 +8,7 @@ use Rattle.std.proofs.lemmas.Bool.{false≢true, and_parts, and_from, eqb-true, 
 use Rattle.std.proofs.lemmas.Slice.Eq.{bytes_eq-Decides}
 use Rattle.c99_grammar.specs.declared.dialects.Edition.{Edition}
 use Rattle.cs_base.specs.Token.{Token}
+use Rattle.cs_base.proofs.BoolLemmas.{and_none, no_case}
 use Rattle.c99_tree.specs.Tree.{Forest, none, token, node, Node}
 use Rattle.c99_tree.specs.declared.production.Label.{Label}
 use Rattle.c99_tree.specs.declared.production.Production.{Production}
@@ -32,14 +33,6 @@ use Rattle.reordered_text_laws.proofs.FrontOutlines.{start, front_agrees, any_pl
 use Rattle.reordered_text_laws.proofs.FrontSteps.{lt_up}
 use Rattle.reordered_text_laws.proofs.MarkedTokens.{AllAt, Told}
 use Rattle.reordered_text_laws.proofs.Reworded.{keyed, length-keyed, keyed_used, keyed_apart, named_within}
-
-no_case : (b : Bool) → (b ≡ true → ⊥) → b ≡ false
-no_case true f = absurd (f refl)
-no_case false f = refl
-
-and_none : (a b : Bool) → b ≡ false → (a && b) ≡ false
-and_none true b e = e
-and_none false b e = refl
 
 -- ---- Labels
 

@@ -3,6 +3,7 @@ use Rattle.std.proofs.Common.{ℕ, zero, suc, ◌+◌, ◌<◌, ◌≡◌, ◌�
 use Rattle.std.proofs.lemmas.Bool.{false≢true, or_parts, ltb-true, lt-ltb, and_parts}
 use Rattle.std.specs.List.{list_all}
 use Rattle.cs_base.specs.Token.{Token}
+use Rattle.cs_base.proofs.BoolLemmas.{or_first as left_acts, no_case, or_right}
 use Rattle.c99_tree.specs.Tree.{Forest, none, token, node, Node, node_of, leaf, inner, put}
 use Rattle.c99_tree.specs.declared.production.Label.{Label}
 use Rattle.c99_tree.specs.declared.production.Production.{Production}
@@ -26,14 +27,6 @@ use Rattle.reordered_text_laws.proofs.CleanNames.{NamesOther, dirty-leaf, dirty-
 use Rattle.reordered_text_laws.proofs.FrontClasses.{eq_up, base_up, class_up}
 use Rattle.reordered_text_laws.proofs.FrontTrees.{raised_node, raised-leaf, raised-inner, put-joined, finished-raised, last-raised, typedef-raised, behind_four, dirty-raised, dirty-joined}
 use Rattle.reordered_text_laws.proofs.FrontGrows.{Grown, grown_item, grown_within}
-
-no_case : (b : Bool) → (b ≡ true → ⊥) → b ≡ false
-no_case true f = absurd (f refl)
-no_case false f = refl
-
-or_right : (x y : Bool) → y ≡ true → (x || y) ≡ true
-or_right true y e = refl
-or_right false y e = e
 
 pub lt_up : (a b : ℕ) → nat_lt (up a) (up b) ≡ nat_lt a b
 lt_up a b = by (nat_lt a b) refl
@@ -59,9 +52,6 @@ acts _ = false
 abbrev pub is_main_one : Production → Bool
 is_main_one Main = true
 is_main_one _ = false
-
-left_acts : (a b : Bool) → a ≡ true → (a || b) ≡ true
-left_acts a b e = ap (λ x. x || b) e
 
 not_main : (p : Production) (n : ℕ) → is_main_one p ≡ false → is_at (labelled p n) Main 4 ≡ false
 not_main Main n e = absurd (false≢true (sym e))

@@ -6,6 +6,7 @@ use Rattle.std.proofs.lemmas.Bool.{false≢true, lt-ltb}
 use Rattle.c99_grammar.specs.declared.dialects.Edition.{Edition}
 use Rattle.c99_grammar.specs.declared.dialects.Edition.TheVariants.{C99, C11}
 use Rattle.cs_base.specs.Token.{Token}
+use Rattle.cs_base.proofs.BoolLemmas.{or_right}
 use Rattle.c99_tree.specs.Tree.{Forest, none, token, node, Node, node_of, leaf, put}
 use Rattle.c99_tree.specs.declared.production.Label.{Label}
 use Rattle.c99_tree.specs.declared.production.Production.{Production}
@@ -583,10 +584,6 @@ lowered-raised (node l first under rest) = ap (λ f. node l first f (lowered (ra
 
 behind_is : (s : Edition) (f h : Forest) → joined (front_forest s) (raised f) ≡ joined (front_forest s) (raised h) → f ≡ h
 behind_is s f h e = sym (lowered-raised f) ∙ (ap (λ k. lowered (rest_of k)) e ∙ lowered-raised h)
-
-or_right : (x y : Bool) → y ≡ true → (x || y) ≡ true
-or_right true y e = refl
-or_right false y e = e
 
 end_class : (h : Grammar) (z : List Token) → (0 == length z) ≡ true → class_at h (at_first z) 0 ≡ End
 unfolding class_at

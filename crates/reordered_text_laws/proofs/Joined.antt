@@ -5,6 +5,7 @@ use Rattle.std.proofs.lemmas.Bool.{false≢true, and_parts}
 use Rattle.std.proofs.lemmas.List.{append-nil, append_assoc}
 use Rattle.c99_grammar.specs.declared.dialects.Edition.{Edition}
 use Rattle.cs_base.specs.Token.{Token}
+use Rattle.cs_base.proofs.BoolLemmas.{and_none as and_false, or_met as implied}
 use Rattle.c99_tree.specs.Tree.{Forest, none, token, node, Node, node_of}
 use Rattle.c99_tree.specs.declared.production.Label.{Label}
 use Rattle.c99_tree.specs.declared.production.Production.{Production}
@@ -18,7 +19,6 @@ use Rattle.c_types.specs.Lists.{name_in}
 use Rattle.c_types.specs.Trees.{is_at}
 use Rattle.name_chains.specs.Frames.{at_first as before}
 use Rattle.tree_laws.specs.TreesOfTexts.{token_count, AreFrom, is_name_place, names_pass, IsTreeOf}
-use Rattle.tree_laws.proofs.NameClasses.{implied}
 use Rattle.tree_laws.proofs.NamesRead.{names_are_read}
 use Rattle.tree_laws.proofs.OfTexts.{trees_of_texts}
 use Rattle.list_cuts.specs.Cuts.{IsOrder, arranged, AreOf}
@@ -36,7 +36,7 @@ use Rattle.reordered_text_laws.specs.ByClasses.{numbers_from}
 use Rattle.reordered_text_laws.specs.Fronted.{fronted, used, Fits, up, strays, dirty, has_some, labelled_as, with_front}
 use Rattle.reordered_text_laws.specs.InOrder.{with_words, TextsAloneAreReadInOrder}
 use Rattle.reordered_text_laws.specs.Joined.{NamesAreSpelled, AreTokensInOrder, TextsAreReadInOrder}
-use Rattle.reordered_text_laws.proofs.Bridge.{and_false, classes_behind, agreeing_read}
+use Rattle.reordered_text_laws.proofs.Bridge.{classes_behind, agreeing_read}
 use Rattle.reordered_text_laws.proofs.Filled.{filled_unit}
 use Rattle.reordered_text_laws.proofs.FrontKeyed.{AllNodes, Known, Enclosed, own_apart, used_at, front_keyed}
 use Rattle.reordered_text_laws.proofs.FrontTop.{front_kept, front_gone}

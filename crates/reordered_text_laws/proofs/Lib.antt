@@ -57,3 +57,4 @@ pub mod SignLemmas
 pub mod RunMarkLemmas
 pub mod ClassLemmas
 pub mod PartMarks
+pub mod Across

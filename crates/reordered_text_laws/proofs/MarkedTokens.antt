@@ -7,6 +7,7 @@ use Rattle.c99_tree.specs.declared.production.Production.TheVariants.{Main}
 use Rattle.c_types.specs.Trees.{is_at}
 use Rattle.tree_laws.specs.TreesOfTexts.{token_count, AreFrom}
 use Rattle.reordered_tree_laws.specs.Reordered.{nodes_in, refilled, no_node, picked_nodes, shuffled, is_among, permuted, leaves, numbered}
+use Rattle.reordered_tree_laws.proofs.Arranged.{length-leaves}
 use Rattle.reordered_text_laws.specs.Fronted.{strays, dirty}
 
 -- ---- Tokens and where they stand
@@ -92,12 +93,6 @@ placed_more m j [] ys h = (tt, subst (λ n. Placed m n ys) (let same : j ≡ j +
 placed_more m j (x ∷ xs) ys h =
     let more = placed_more m (j + 1) xs ys h.1 in
     ((h.0, more.0), subst (λ n. Placed m n ys) (let same : (j + 1) + length xs ≡ j + suc (length xs) = omega arith in same) more.1)
-
-length-leaves : (f : Forest) → length (leaves f) ≡ token_count f
-length-leaves none = refl
-length-leaves (token i rest) = (let e : length (leaves rest) ≡ token_count rest = length-leaves rest in omega (arith, e))
-length-leaves (node l first under rest) =
-    length-append (leaves under) (leaves rest) ∙ (let a : length (leaves under) ≡ token_count under = length-leaves under in let b : length (leaves rest) ≡ token_count rest = length-leaves rest in omega (arith, a, b))
 
 -- with new numbers, where token `m i` has become token i
 pub numbered_at : (P Q : Label → ℕ → ℕ → Type 0) (m : ℕ → ℕ) → ((l : Label) (k i : ℕ) → P l k (m i) → Q l k i)

@@ -55,7 +55,7 @@ beside : (m k : ℕ) (ms l : List ℕ) → StandBy (m ∷ k ∷ ms) l → ((last
 beside m k ms l (inl h) = inl h.1
 beside m k ms l (inr h) = inr h
 
-behind_mark : (k : ℕ) (ms l : List ℕ) → StandFrom 0 (k ∷ ms) → StandBy (k ∷ ms) l → k < first_of l
+pub behind_mark : (k : ℕ) (ms l : List ℕ) → StandFrom 0 (k ∷ ms) → StandBy (k ∷ ms) l → k < first_of l
 behind_mark k [] l stand h = h
 behind_mark k (j ∷ ms) l stand (inl h) = h.0
 behind_mark k (j ∷ ms) l stand (inr h) =

@@ -28,10 +28,11 @@ use Rattle.reordered_text_laws.proofs.Tables.{ending, tells}
 use Rattle.reordered_text_laws.proofs.Starts.{starts_so}
 use Rattle.reordered_text_laws.proofs.Arguments.{in_order as args_in_order, found as args_found, together as args_together}
 use Rattle.reordered_text_laws.proofs.Parameters.{found as params_found, together as params_together}
-use Rattle.reordered_text_laws.proofs.Shuffled.{IsNode, AllNodes, nodes-joined, joined-none, in_new_order}
+use Rattle.reordered_text_laws.proofs.Shuffled.{IsNode, AllNodes, nodes-joined, in_new_order}
 use Rattle.reordered_text_laws.proofs.Permuted.{labelled}
 use Rattle.reordered_text_laws.proofs.Near.{Plain}
 use Rattle.reordered_text_laws.proofs.Anew.{Sometime}
+use Rattle.reordered_text_laws.proofs.Alone.{joined-none}
 
 -- ---- Trees
 

@@ -1,7 +1,8 @@
 -- The parameters of a list are read in any order.
-use Rattle.std.proofs.Common.{ℕ, suc, zero, ◌≡◌, Bool, true, false, ◌&&◌, not, List, [], ◌∷◌, ◌++◌, Option, None, Some, refl, sym, ap, subst, ◌∙◌, inl, inr}
+use Rattle.std.proofs.Common.{ℕ, suc, zero, ◌≡◌, true, false, ◌&&◌, not, List, [], ◌∷◌, ◌++◌, Option, None, Some, refl, sym, ap, subst, ◌∙◌, inl, inr}
 use Rattle.std.proofs.lemmas.Bool.{false≢true}
 use Rattle.std.proofs.lemmas.List.{append_assoc}
+use Rattle.cs_base.proofs.BoolLemmas.{no_case}
 use Rattle.c99_grammar.specs.declared.dialects.Dialect.{Dialect}
 use Rattle.c99_tree.specs.Tree.{Forest, none, token, node}
 use Rattle.c99_tree.specs.declared.production.Production.TheVariants.{Params, Param}
@@ -30,10 +31,6 @@ ellipsis_is _ e = absurd (false≢true e)
 identifier_is : (c : Class) → among (Identifier ∷ []) c ≡ true → c ≡ Identifier
 identifier_is Identifier e = refl
 identifier_is _ e = absurd (false≢true e)
-
-no_case : (b : Bool) → (b ≡ true → ⊥) → b ≡ false
-no_case true f = absurd (f refl)
-no_case false f = refl
 
 -- a parameter begins neither with `...` nor with an identifier
 no_ellipsis : (s : Dialect) (c d : Class) → production_starts (grammar s) Param c d ≡ true → among (Ellipsis ∷ []) c ≡ false

@@ -6,11 +6,12 @@ use Rattle.std.proofs.lemmas.List.{map-append}
 use Rattle.list_cuts.specs.Cuts.{Cut, done, keep, list, Items, ended, item, span_of}
 use Rattle.list_cuts.specs.CutOf.{front, back}
 use Rattle.expansion_laws.specs.Arranging.{in_lists}
-use Rattle.reordered_text_laws.specs.Marks.{ends_of, marks_of, marks_in, first_of, last_of, IsMarked, AreMarked, Each, StandFrom, AreOfList, StandBy, AreNested}
+use Rattle.reordered_text_laws.specs.Marks.{ends_of, marks_of, marks_in, first_of, last_of, IsMarked, AreMarked, Each, AreOfList, StandBy, AreNested}
 use Rattle.reordered_text_laws.specs.MarkedCuts.{IsBeside}
 use Rattle.reordered_text_laws.proofs.EachLemmas.{each_map, each_join, each_later}
 use Rattle.reordered_text_laws.proofs.MarkLemmas.{Within, items_last, cut_within, items_within}
 use Rattle.reordered_text_laws.proofs.SplitLemmas.{marked_cuts_split}
+use Rattle.reordered_text_laws.proofs.OfLemmas.{behind_mark as by_first}
 use Rattle.reordered_text_laws.specs.Trees.{IsAmong}
 
 -- ---- marks from another element on
@@ -161,14 +162,6 @@ part_marks limit b n c w one two =
 abbrev pub Rises : List (List ℕ) → Type 0
 Rises [] = Unit {0}
 Rises (l ∷ ls) = Each (λ m. first_of l < first_of m) ls × Rises ls
-
-by_first : (m : ℕ) (ms other : List ℕ) → StandFrom 0 (m ∷ ms) → StandBy (m ∷ ms) other → m < first_of other
-by_first m [] other stand h = h
-by_first m (j ∷ ms) other stand (inl h) = h.0
-by_first m (j ∷ ms) other stand (inr h) =
-    let next = stand.1.0 in
-    let far = by_first j ms other (omega arith, stand.1.1) h in
-    omega (arith, next, far)
 
 first_before : (limit : ℕ) (l other : List ℕ) → AreOfList limit l → StandBy l other → first_of l < first_of other
 first_before limit [] other is h = absurd h

@@ -6,11 +6,12 @@ use Rattle.std.specs.Str.{bytes_eq}
 use Rattle.std.proofs.lemmas.Bool.{false≢true, and_parts, not-true}
 use Rattle.std.proofs.lemmas.List.{length-map}
 use Rattle.std.proofs.lemmas.List.Sorted.{length_permutation}
-use Rattle.std.proofs.lemmas.Option.{slice_get-map, slice_get_past, slice_get_cases, get_or_from_slice_get, unwrap_or-slice_get}
+use Rattle.std.proofs.lemmas.Option.{slice_get-map, slice_get_past, slice_get_cases, get_or_from_slice_get, unwrap_or-slice_get, same_Some as some_is}
 use Rattle.c99_grammar.specs.declared.dialects.Edition.{Edition}
 use Rattle.cs_base.specs.declared.tokens.Kind.{Kind}
 use Rattle.cs_base.specs.declared.tokens.Kind.TheVariants.{Ident, Number, Char, Str, Punct, Header, Other}
 use Rattle.cs_base.specs.Token.{Token}
+use Rattle.cs_base.proofs.BoolLemmas.{not_both}
 use Rattle.c99_tree.specs.Tree.{Node}
 use Rattle.c99_grammar.specs.declared.classes.Class.{Class}
 use Rattle.c99_grammar.specs.declared.classes.Class.TheVariants.{End, NoClass}
@@ -25,7 +26,7 @@ use Rattle.expansion_laws.specs.Spelled.{fits, is_spelled}
 use Rattle.reordered_text_laws.specs.ByClasses.{numbers_from}
 use Rattle.reordered_text_laws.proofs.Numbered.{length-numbers_from}
 use Rattle.reordered_text_laws.specs.Joined.{NamesAreSpelled, AreTokensInOrder, plains, TextsAreReadInOrder, PlainTokensStandInOrder, ArrangedTextsAreRead, SpelledTextsHaveNames}
-use Rattle.reordered_text_laws.proofs.Reworded.{base_some, base_none, spelled_some, spelled_none, each_token, end_other, not_both}
+use Rattle.reordered_text_laws.proofs.Reworded.{base_some, base_none, spelled_some, spelled_none, each_token, end_other}
 
 -- ---- The element at each place
 
@@ -35,9 +36,6 @@ some_all {X} f j (x ∷ xs) e =
     ap (λ (o : Option X). o ∷ map (λ y. Some y) xs) (sym (ap f (let same : j ≡ j + 0 = omega arith in same) ∙ e 0 (omega arith)))
     ∙ ap (λ os. f j ∷ os)
     (some_all f (j + 1) xs (λ k lt. ap f (let same : (j + 1) + k ≡ j + suc k = omega arith in same) ∙ e (suc k) (omega (arith, lt))))
-
-some_is : {X : Type 0} (a b : X) → Some a ≡ Some b → a ≡ b
-some_is a b e = ap (λ o. unwrap_or o a) e
 
 abbrev is_there : {X : Type 0} → Option X → Bool
 is_there None = false

@@ -6,6 +6,7 @@ use Rattle.std.specs.Str.{bytes_eq}
 use Rattle.std.proofs.lemmas.Slice.Eq.{bytes_eq-Decides}
 use Rattle.c99_grammar.specs.declared.dialects.Edition.{Edition}
 use Rattle.cs_base.specs.Token.{Token}
+use Rattle.cs_base.proofs.BoolLemmas.{no_case, not_both}
 use Rattle.c99_tree.specs.Tree.{Forest, none, token, node}
 use Rattle.c99_tree.specs.declared.production.Label.{Label}
 use Rattle.c99_tree.specs.declared.production.Production.{Production}
@@ -24,11 +25,7 @@ use Rattle.reordered_text_laws.specs.Fronted.{used, labelled_as}
 use Rattle.reordered_text_laws.proofs.FrontClasses.{other_way}
 use Rattle.reordered_text_laws.proofs.FrontKeyed.{typed_place, primary_place, listed_place}
 use Rattle.reordered_text_laws.proofs.MarkedTokens.{AllAt}
-use Rattle.reordered_text_laws.proofs.Reworded.{class_is, zeros, length-zeros, same_length, bytes_in, bytes_of, reworded, length-reworded, base_same, got_some, got_none, base_some, base_none, end_other, spelled_some, spelled_none, each_token, none_behind, not_both, filled_text}
-
-no_case : (b : Bool) → (b ≡ true → ⊥) → b ≡ false
-no_case true f = absurd (f refl)
-no_case false f = refl
+use Rattle.reordered_text_laws.proofs.Reworded.{class_is, zeros, length-zeros, same_length, bytes_in, bytes_of, reworded, length-reworded, base_same, got_some, got_none, base_some, base_none, end_other, spelled_some, spelled_none, each_token, none_behind, filled_text}
 
 module _ (s : Edition) (toks : List Token) where
   -- other tokens are spelled by zeros where they had the empty word

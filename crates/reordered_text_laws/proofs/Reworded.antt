@@ -10,6 +10,7 @@ use Rattle.c99_grammar.specs.declared.dialects.Edition.{Edition}
 use Rattle.cs_base.specs.Token.{Token}
 use Rattle.cs_base.specs.declared.tokens.Kind.{Kind}
 use Rattle.cs_base.specs.declared.tokens.Kind.TheVariants.{Ident, Punct}
+use Rattle.cs_base.proofs.BoolLemmas.{if_false as if_not, if_is as if_so, not_both}
 use Rattle.c99_grammar.specs.declared.classes.Class.{Class}
 use Rattle.c99_grammar.specs.declared.classes.Class.TheVariants.{Identifier, TypedefName, End, NoClass}
 use Rattle.c99_grammar.specs.Spellings.{Spelled}
@@ -90,15 +91,6 @@ spelled_some toks k t e = ap (λ o. option_map_or (λ (x : Token). x.text) o [])
 
 pub spelled_none : (toks : List Token) (k : ℕ) → slice_get toks k ≡ None → spelling_at toks k ≡ []
 spelled_none toks k e = ap (λ o. option_map_or (λ (x : Token). x.text) o []) e
-
-pub not_both : (c : Bool) → c ≡ true → c ≡ false → ⊥
-not_both c e f = false≢true (sym f ∙ e)
-
-if_so : {A : Type 0} (c : Bool) (x y : A) → c ≡ true → (if c then x else y) ≡ x
-if_so c x y e = ap (λ b. if b then x else y) e
-
-if_not : {A : Type 0} (c : Bool) (x y : A) → c ≡ false → (if c then x else y) ≡ y
-if_not c x y e = ap (λ b. if b then x else y) e
 
 empty_name : (s : Edition) → spelled_class (iso s).keywords [] Identifier ≡ Identifier
 unfolding spelled_class

@@ -5,25 +5,13 @@ use Rattle.std.proofs.lemmas.Bool.{false≢true}
 use Rattle.std.proofs.lemmas.Option.{same_Some, slice_get_within}
 use Rattle.std.proofs.lemmas.List.{map-append}
 use Rattle.cs_base.specs.Token.{Token}
+use Rattle.cs_base.proofs.ListLemmas.{in_drop as out_drop, in_take as out_take}
 use Rattle.line_shape.specs.Signs.{is_open, is_close, is_comma}
 use Rattle.list_cuts.specs.Cuts.{Cut, done, keep, list, Items, ended, item, count_of, span_of}
 use Rattle.expansion_laws.specs.Arranging.{IsMark, MarksStand, ItemsStand}
 use Rattle.expansion_laws.proofs.MarkLemmas.{length_at, close-no_open}
 use Rattle.reordered_text_laws.specs.Marks.{ends_of, marks_of, marks_in, IsMarked, AreMarked}
 use Rattle.reordered_text_laws.specs.Runs.{RunsHaveMarks}
-
-out_drop : {X : Type 0} (n k : ℕ) (xs : List X) (x : X) → slice_get (drop n xs) k ≡ Some x → slice_get xs (n + k) ≡ Some x
-out_drop zero k xs x is = let same : 0 + k ≡ k = omega arith in ap (λ (i : ℕ). slice_get xs i) same ∙ is
-out_drop (suc n) k [] x is = absurd (cc)
-out_drop (suc n) k (y ∷ ys) x is =
-    let same : suc n + k ≡ suc (n + k) = omega arith in
-    ap (λ (i : ℕ). slice_get (y ∷ ys) i) same ∙ out_drop n k ys x is
-
-out_take : {X : Type 0} (n k : ℕ) (xs : List X) (x : X) → slice_get (take n xs) k ≡ Some x → slice_get xs k ≡ Some x
-out_take zero k xs x is = absurd (cc)
-out_take (suc n) k [] x is = absurd (cc)
-out_take (suc n) zero (y ∷ ys) x is = is
-out_take (suc n) (suc k) (y ∷ ys) x is = out_take n k ys x is
 
 first_of : {X : Type 0} (n : ℕ) (xs : List X) (x : X) → slice_get xs n ≡ Some x → slice_get (drop n xs) 0 ≡ Some x
 first_of zero xs x is = is

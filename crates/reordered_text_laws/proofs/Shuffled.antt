@@ -41,11 +41,6 @@ nodes-joined none g = refl
 nodes-joined (token i rest) g = nodes-joined rest g
 nodes-joined (node l first under rest) g = ap (λ (ns : List Node). record { label = l; first = first; under = under } ∷ ns) (nodes-joined rest g)
 
-pub joined-none : (f : Forest) → joined f none ≡ f
-joined-none none = refl
-joined-none (token i rest) = ap (token i) (joined-none rest)
-joined-none (node l first under rest) = ap (node l first under) (joined-none rest)
-
 -- ---- Items behind their commas
 
 module _ (tail : Forest) (last : nodes_in tail ≡ []) where

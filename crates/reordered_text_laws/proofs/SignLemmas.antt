@@ -1,7 +1,8 @@
 -- A cut with marks that are signs has these where they are looked for.
-use Rattle.std.proofs.Common.{◌≡◌, ℕ, zero, suc, ◌+◌, ◌-◌, ◌<◌, ◌≤◌, Bool, List, [], ◌∷◌, ◌++◌, take, drop, Some, refl, ap, sym, ◌∙◌, arith}
+use Rattle.std.proofs.Common.{◌≡◌, ℕ, suc, ◌+◌, ◌-◌, ◌<◌, ◌≤◌, Bool, List, [], ◌∷◌, ◌++◌, take, drop, Some, refl, ap, sym, ◌∙◌, arith}
 use Rattle.std.specs.Prelude.{slice_get}
 use Rattle.cs_base.specs.Token.{Token}
+use Rattle.cs_base.proofs.ListLemmas.{to_drop as in_drop, at_take as in_take}
 use Rattle.line_shape.specs.Signs.{is_open, is_close, is_comma}
 use Rattle.list_cuts.specs.Cuts.{Cut, done, keep, list, Items, ended, item, span_of}
 use Rattle.expansion_laws.specs.Arranging.{IsSign, SignsStand, ItemsSigned}
@@ -15,19 +16,6 @@ each_first P (x ∷ xs) ys h = (h.0, each_first P xs ys h.1)
 each_later : {X : Type 0} (P : X → Type 0) (xs ys : List X) → Each P (xs ++ ys) → Each P ys
 each_later P [] ys h = h
 each_later P (x ∷ xs) ys h = each_later P xs ys h.1
-
-in_drop : {X : Type 0} (n k : ℕ) (xs : List X) (x : X) → slice_get xs (n + k) ≡ Some x → slice_get (drop n xs) k ≡ Some x
-in_drop zero k xs x is = let same : 0 + k ≡ k = omega arith in ap (λ (i : ℕ). slice_get xs i) (sym same) ∙ is
-in_drop (suc n) k [] x is = is
-in_drop (suc n) k (y ∷ ys) x is =
-    let same : suc n + k ≡ suc (n + k) = omega arith in
-    in_drop n k ys x (ap (λ (i : ℕ). slice_get (y ∷ ys) i) (sym same) ∙ is)
-
-in_take : {X : Type 0} (n k : ℕ) (xs : List X) (x : X) → k < n → slice_get xs k ≡ Some x → slice_get (take n xs) k ≡ Some x
-in_take zero k xs x lt is = absurd (omega (arith, lt))
-in_take (suc n) k [] x lt is = is
-in_take (suc n) zero (y ∷ ys) x lt is = is
-in_take (suc n) (suc k) (y ∷ ys) x lt is = in_take n k ys x (omega (arith, lt)) is
 
 -- The tokens from one on, before another, stand in these.
 abbrev Shows : List Token → ℕ → ℕ → List Token → Type 0

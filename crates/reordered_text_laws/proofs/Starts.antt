@@ -1,6 +1,7 @@
 -- What is read for a production starts it.
-use Rattle.std.proofs.Common.{ℕ, suc, zero, ◌+◌, ◌≡◌, Bool, true, false, ◌||◌, List, [], ◌∷◌, Option, Some, refl, ap, ◌∙◌}
+use Rattle.std.proofs.Common.{ℕ, suc, zero, ◌+◌, ◌≡◌, true, ◌||◌, List, [], ◌∷◌, Option, Some, ap, ◌∙◌}
 use Rattle.std.specs.List.{list_any}
+use Rattle.cs_base.proofs.BoolLemmas.{or_right}
 use Rattle.c99_grammar.specs.declared.dialects.Dialect.{Dialect}
 use Rattle.c99_tree.specs.declared.production.Production.{Production}
 use Rattle.c99_grammar.specs.declared.classes.Class.{Class}
@@ -11,10 +12,6 @@ use Rattle.c99_grammar.proofs.FirstLemmas.{first_sets}
 use Rattle.c99_read.specs.Reading.{Goal, produce}
 use Rattle.reordered_text_laws.specs.ByClasses.{Taken, here, behind, may_read, read_first, read_by_classes}
 use Rattle.reordered_text_laws.proofs.Found.{stopped, branch}
-
-or_right : (x y : Bool) → y ≡ true → (x || y) ≡ true
-or_right true y e = refl
-or_right false y e = e
 
 module _ (g : Grammar) (class_of : ℕ → Class) (below : ℕ → Goal → List ℕ → Option Taken) where
   any_first : (p : Production) (alternatives : List Alternative) (depth n : ℕ) (xs : List ℕ) (t : Taken) → read_first g class_of below depth p n alternatives xs ≡ Some t

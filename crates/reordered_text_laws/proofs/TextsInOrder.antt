@@ -20,6 +20,7 @@ use Rattle.c99_read.proofs.Suffices.{measure, run-agree, whole-runs}
 use Rattle.tree_laws.specs.TreesOfTexts.{token_count, AreFrom}
 use Rattle.tree_laws.specs.ReadTexts.{TokensStandInOrder}
 use Rattle.reordered_tree_laws.specs.Reordered.{permuted, numbered, reordered}
+use Rattle.reordered_tree_laws.proofs.SameForms.{count-numbered}
 use Rattle.reordered_text_laws.specs.Alone.{AreAlone, IsReadAlike}
 use Rattle.reordered_text_laws.specs.ByClasses.{numbers_from, untold, Taken, taken, read_item, read_by_classes}
 use Rattle.reordered_text_laws.specs.InOrder.{with_words, IsReadAs, TextsAloneAreReadInOrder}
@@ -57,11 +58,6 @@ single_so (token i rest) l f e = absurd (false≢true (ap is_single e))
 single_so (node m first under none) l f e = record { first = first; under = under; is = ap (λ k. node k first under none) (ap (label_of m) e); same = ap under_of e }
 single_so (node m first under (token i rest)) l f e = absurd (false≢true (ap is_single e))
 single_so (node m first under (node k second below rest)) l f e = absurd (false≢true (ap is_single e))
-
-count-numbered : (k : ℕ) (f : Forest) → token_count (numbered k f) ≡ token_count f
-count-numbered k none = refl
-count-numbered k (token i rest) = ap (λ n. n + 1) (count-numbered (k + 1) rest)
-count-numbered k (node l first under rest) = omega (arith, count-numbered k under, count-numbered (k + token_count under) rest)
 
 pub from-numbered : (k : ℕ) (f : Forest) → AreFrom k (numbered k f)
 from-numbered k none = tt

@@ -1,10 +1,12 @@
 -- The marks of the lists of a tree are those of its cut.
 use Rattle.std.proofs.Common.{◌≡◌, ℕ, ◌+◌, ◌-◌, ◌<◌, ◌≤◌, inl, inr, Bool, true, false, List, [], ◌∷◌, ◌++◌, refl, ap, sym, subst, ◌∙◌, arith}
-use Rattle.std.specs.Prelude.{◌%◌, ◌==◌}
-use Rattle.std.proofs.lemmas.Bool.{cases_Bool, false≢true, eq-eqb}
+use Rattle.std.specs.Prelude.{◌%◌}
+use Rattle.std.proofs.lemmas.Bool.{cases_Bool, false≢true}
+use Rattle.cs_base.proofs.NumberLemmas.{even_next, odd_next}
 use Rattle.c99_tree.specs.Tree.{Forest, none, token, node}
 use Rattle.c99_tree.specs.declared.production.Label.{Label}
 use Rattle.c_types.specs.Lists.{odd_tokens}
+use Rattle.c_types.proofs.TokenLemmas.{odd_here}
 use Rattle.tree_laws.specs.TreesOfTexts.{token_count, AreFrom}
 use Rattle.list_cuts.specs.Cuts.{Cut, done, keep, list, count_of, span_of}
 use Rattle.reordered_tree_laws.specs.Reordered.{is_among}
@@ -42,15 +44,6 @@ span_items lists (node l first under rest) = let h = span_items lists rest in om
 span_node : (lists : ℕ → Bool) (l : Label) (first : ℕ) (under rest : Forest) → span_of (items_in lists (node l first under rest)) ≡ token_count under + token_count rest
 unfolding span_of
 span_node lists l first under rest = let h = span_items lists rest in omega (arith, h)
-
-odd_next : (k : ℕ) → k % 2 ≡ 0 → (k + 1) % 2 ≡ 1
-odd_next k e = omega (arith, e)
-
-even_next : (k : ℕ) → k % 2 ≡ 1 → (k + 1) % 2 ≡ 0
-even_next k e = omega (arith, e)
-
-odd_here : (k i : ℕ) (rest : Forest) → k % 2 ≡ 1 → odd_tokens k (token i rest) ≡ i ∷ odd_tokens (k + 1) rest
-odd_here k i rest odd = let here : (k % 2 == 1) ≡ true = eq-eqb (k % 2) 1 odd in rw here refl
 
 module _ (lists : ℕ → Bool) where
   -- the marks behind woven items

@@ -25,11 +25,11 @@ use Rattle.reordered_text_laws.proofs.Whole.{tokens_of-child}
 use Rattle.reordered_text_laws.proofs.Local.{item_text}
 use Rattle.reordered_text_laws.proofs.Stops.{closes}
 use Rattle.reordered_text_laws.proofs.Tables.{ending, tells}
-use Rattle.reordered_text_laws.proofs.Shuffled.{joined-none}
 use Rattle.reordered_text_laws.proofs.Permuted.{labelled, not_among, permuted-child, AreFull, full-child, cut_full}
 use Rattle.reordered_text_laws.proofs.Near.{shut, Near, Beside}
 use Rattle.reordered_text_laws.proofs.Anew.{Sometime, new, anew_item}
 use Rattle.reordered_text_laws.proofs.AnewTables.{goods}
+use Rattle.reordered_text_laws.proofs.Alone.{joined-none}
 
 module _ (s : Edition) (class_of : ℕ → Class) where
   abbrev g : Grammar

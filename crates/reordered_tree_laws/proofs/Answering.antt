@@ -8,8 +8,9 @@ use Rattle.std.proofs.lemmas.List.Elements.{All-head, All-tail}
 use Rattle.cs_base.specs.Token.{Token}
 use Rattle.c99_tree.specs.Tree.{Node}
 use Rattle.c_types.specs.Declarations.{alike}
+use Rattle.c_types.proofs.TokenLemmas.{alike_back as alike_turned}
 use Rattle.tree_laws.specs.TreesOfTexts.{token_count}
-use Rattle.tree_laws.proofs.Lookups.{alike_same, alike_turned}
+use Rattle.tree_laws.proofs.Lookups.{alike_same}
 use Rattle.tree_laws.proofs.Outline.{Entry, Outline}
 use Rattle.reordered_tree_laws.specs.Premises.{declared_name}
 use Rattle.reordered_tree_laws.proofs.Answered.{Ask, open_at, of_list, at_depth, meets, kind_among}

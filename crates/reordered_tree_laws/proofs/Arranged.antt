@@ -2,6 +2,7 @@
 use Rattle.std.proofs.Common.{ℕ, suc, ◌+◌, ◌-◌, ◌≡◌, Bool, true, false, List, [], ◌∷◌, ◌++◌, length, take, drop, map, get_or, refl, sym, ap, ◌∙◌, arith, length-append, append-nil, append_assoc}
 use Rattle.std.proofs.lemmas.List.{length-map, drop-drop}
 use Rattle.std.proofs.Math.ListN as listn
+use Rattle.cs_base.proofs.ListLemmas.{drop-front}
 use Rattle.c99_tree.specs.Tree.{Forest, none, token, node, Node}
 use Rattle.list_cuts.specs.Cuts.{Cut, done, count_of, span_of, picked, woven, gaps_of, arranged, items_of, AreOf, AreItemsOf}
 use Rattle.tree_laws.specs.TreesOfTexts.{token_count}
@@ -13,10 +14,6 @@ use Rattle.reordered_tree_laws.specs.Cuts.{gap_in, cut_then, list_then, items_in
 pub take-front : (xs ys : List ℕ) → take (length xs) (xs ++ ys) ≡ xs
 take-front [] ys = refl
 take-front (x ∷ xs) ys = ap (λ (zs : List ℕ). x ∷ zs) (take-front xs ys)
-
-pub drop-front : (xs ys : List ℕ) → drop (length xs) (xs ++ ys) ≡ ys
-drop-front [] ys = refl
-drop-front (x ∷ xs) ys = drop-front xs ys
 
 pub drop-more : (n k : ℕ) (xs : List ℕ) → drop (n + k) xs ≡ drop k (drop n xs)
 drop-more n k xs = sym (drop-drop k n xs)

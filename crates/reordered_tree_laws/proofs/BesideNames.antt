@@ -5,6 +5,7 @@ use Rattle.std.specs.List.{list_any}
 use Rattle.std.specs.Option.{option_map_or}
 use Rattle.std.proofs.lemmas.Bool.{and_from, and_parts}
 use Rattle.cs_base.specs.Token.{Token}
+use Rattle.cs_base.proofs.BoolLemmas.{not_true as not_false}
 use Rattle.c99_tree.specs.Tree.{Forest}
 use Rattle.c_types.specs.declared.entity.EntityKind.{EntityKind}
 use Rattle.c_types.specs.declared.entity.EntityKind.TheVariants.{Typedef, Parameter}
@@ -18,10 +19,6 @@ use Rattle.tree_laws.proofs.Lookups.{any_same}
 use Rattle.reordered_tree_laws.specs.Beside.{is_free_tag, is_free_use, is_free_name, IsOwn, IsOwnDeclaration, IsOwnFrame, AreBeside}
 use Rattle.reordered_tree_laws.proofs.Beside.{IsUnasked, found_same, found_own, fault_beside, occurrence_beside, declaration_beside, begun_beside}
 use Rattle.reordered_tree_laws.proofs.OwnTypes.{own_adjusted, own_declarator, own_renumbered}
-
-pub not_false : (b : Bool) → not b ≡ true → b ≡ false
-not_false true e = sym e
-not_false false e = refl
 
 module _ (toks : List Token) (foreign : ℕ → Bool) (zero_own : foreign 0 ≡ false) (ds es : List Declaration) (bs cs : List Occurrence) where
   abbrev Next : Facts → Facts → Type 0

@@ -2,6 +2,7 @@
 use Rattle.std.proofs.Common.{ℕ, ◌+◌, ◌≡◌, Bool, true, false, ◌&&◌, not, List, refl, sym, subst}
 use Rattle.std.proofs.lemmas.Bool.{and_parts}
 use Rattle.cs_base.specs.Token.{Token}
+use Rattle.cs_base.proofs.BoolLemmas.{not_true as not_false}
 use Rattle.c99_tree.specs.Tree.{Forest, none, token, node}
 use Rattle.c99_tree.specs.declared.production.Label.{Label}
 use Rattle.name_chains.specs.Frames.{State, state}
@@ -9,7 +10,6 @@ use Rattle.name_chains.specs.Entering.{scope_in, entered}
 use Rattle.scope_bind.specs.Named.{Declaration, Occurrence}
 use Rattle.scope_bind.specs.Walk.{passed, left, walked}
 use Rattle.reordered_tree_laws.specs.Beside.{is_free_token, is_free_node, is_apart, StandBeside, PartsBindAlike}
-use Rattle.reordered_tree_laws.proofs.BesideNames.{not_false}
 use Rattle.reordered_tree_laws.proofs.BesideSteps.{passed_beside, entered_beside, after_beside, frame_own}
 
 module _ (toks : List Token) (foreign : ℕ → Bool) (zero_own : foreign 0 ≡ false) (ds es : List Declaration) (bs cs : List Occurrence) where

@@ -7,6 +7,7 @@ use Rattle.std.proofs.lemmas.List.{length-map}
 use Rattle.std.proofs.lemmas.List.Sorted.{list_any-IsPermutation}
 use Rattle.std.specs.Prelude.{IsPermutation}
 use Rattle.cs_base.specs.Token.{Token}
+use Rattle.cs_base.proofs.BoolLemmas.{or_met as not_no}
 use Rattle.c99_tree.specs.Tree.{Forest, none, token, node, Node, node_of}
 use Rattle.c99_tree.specs.declared.production.Label.{Label}
 use Rattle.c99_tree.specs.declared.production.Production.{Production}
@@ -34,10 +35,6 @@ use Rattle.reordered_tree_laws.proofs.ItemsMoved.{declared_permuted, item_permut
 
 and_three : (a b c : Bool) → (a && (b && c)) ≡ true → (a ≡ true) × ((b ≡ true) × (c ≡ true))
 and_three a b c e = let p = and_parts a (b && c) e in let q = and_parts b c p.1 in (p.0, (q.0, q.1))
-
-not_no : (c d : Bool) → (not c || d) ≡ true → c ≡ true → d ≡ true
-not_no true d e h = e
-not_no false d e h = absurd (false≢true h)
 
 pub items_no_list : (lists : ℕ → Bool) (l : Label) (u : Forest) → is_items l ≡ true → is_among lists l u ≡ false
 items_no_list lists l u e = by l.production l.alternative e

@@ -7,6 +7,7 @@ use Rattle.std.specs.Str.{bytes_eq}
 use Rattle.std.proofs.lemmas.Bool.{cases_Bool, false≢true, eqb-true, eqb-false, eq-eqb}
 use Rattle.std.proofs.lemmas.List.Folds.{list_any-append}
 use Rattle.cs_base.specs.Token.{Token}
+use Rattle.cs_base.proofs.BoolLemmas.{chosen as if_when}
 use Rattle.c99_tree.specs.Tree.{Forest, none, token, node, node_of}
 use Rattle.c99_tree.specs.declared.production.Label.{Label}
 use Rattle.c99_tree.specs.declared.production.Production.{Production}
@@ -34,10 +35,6 @@ param_apart l e = by l.production l.alternative e
     by : (p : Production) (n : ℕ) → is_node (record { production = p; alternative = n }) Param ≡ true → is_parenthesised (record { production = p; alternative = n }) ≡ false
     by Param n e = refl
     by _ n e = absurd (false≢true e)
-
-if_when : {A : Type 0} (c : Bool) (x y z : A) → (c ≡ true → x ≡ y) → (if c then x else z) ≡ (if c then y else z)
-if_when true x y z f = f refl
-if_when false x y z f = refl
 
 -- the three kinds of identifiers that are asked for
 asked_parts : (p : ℕ → Bool) (l : Label) (first : ℕ) (u : Forest)

@@ -5,6 +5,7 @@ use Rattle.std.specs.List.{list_any}
 use Rattle.std.specs.Option.{option_map_or}
 use Rattle.std.proofs.lemmas.Bool.{false≢true, and_parts}
 use Rattle.std.proofs.lemmas.List.Folds.{list_any-append}
+use Rattle.cs_base.proofs.BoolLemmas.{and_none as and_false, not_true as not_one}
 use Rattle.c99_tree.specs.Tree.{Forest, none, token, node, Node, node_of}
 use Rattle.c99_tree.specs.declared.production.Label.{Label}
 use Rattle.c99_tree.specs.declared.production.Production.{Production}
@@ -38,10 +39,6 @@ items_apart l e = by l.production l.alternative e
     by Args n e = refl
     by Params n e = refl
     by _ n e = absurd (false≢true e)
-
-pub not_one : (b : Bool) → not b ≡ true → b ≡ false
-not_one true e = sym e
-not_one false e = refl
 
 pub items_bare : (l : Label) (u : Forest) → is_items l ≡ true → bare_at l u ≡ []
 items_bare l u e = by l.production l.alternative e
@@ -190,10 +187,6 @@ tags_checked test l k (node m first under rest) =
 pub or_when : (c x y : Bool) → (c ≡ true → x ≡ y) → (not c || x) ≡ (not c || y)
 or_when true x y f = f refl
 or_when false x y f = refl
-
-pub and_false : (a b : Bool) → b ≡ false → (a && b) ≡ false
-and_false true b e = e
-and_false false b e = refl
 
 -- ---- Lists in a new order
 

@@ -1,16 +1,17 @@
 -- The forms of lists and of their items, as far as the walk rests on them: a separator and an item leave nothing in the frame
 -- around them, and tokens of a part are those from one number on.
-use Rattle.std.proofs.Common.{ℕ, ◌+◌, ◌≤◌, ◌<◌, ◌≡◌, Bool, true, false, ◌&&◌, ◌||◌, not, cond, if◌then◌else◌, ◌==◌, List, [], ◌∷◌, ◌++◌, Option, None, Some, refl, sym, ap, ◌∙◌, arith}
+use Rattle.std.proofs.Common.{ℕ, ◌+◌, ◌≤◌, ◌<◌, ◌≡◌, Bool, true, false, ◌&&◌, ◌||◌, not, cond, if◌then◌else◌, ◌==◌, List, [], ◌∷◌, ◌++◌, Option, refl, sym, ap, ◌∙◌, arith}
 use Rattle.std.specs.Prelude.{◌%◌, filter, nat_lt}
 use Rattle.std.specs.List.{All, list_all}
 use Rattle.std.specs.Option.{option_map_or}
-use Rattle.std.proofs.lemmas.Bool.{false≢true, and_parts, and_from, ltb-true, ltb-false, lt-ltb, le-ltb, eqb-true}
+use Rattle.std.proofs.lemmas.Bool.{false≢true, and_parts, and_from, ltb-true, ltb-false, lt-ltb, le-ltb}
 use Rattle.std.proofs.lemmas.List.Elements.{All-nil, All-cons, All-head, All-tail}
 use Rattle.cs_base.specs.Token.{Token}
+use Rattle.cs_base.proofs.BoolLemmas.{no_case as refuted}
 use Rattle.c99_tree.specs.Tree.{Forest, none, token, node, Node, node_of}
 use Rattle.c99_tree.specs.declared.production.Label.{Label}
 use Rattle.c99_tree.specs.declared.production.Production.{Production}
-use Rattle.c99_tree.specs.declared.production.Production.TheVariants.{Args, Params, Param, Specs, FunBody, SuRest, EnRest, Members, MemRest, Enumerators, Enumerator, Declarator, Pdecl, Suffix, Block, Statement, Sub}
+use Rattle.c99_tree.specs.declared.production.Production.TheVariants.{Args, Params, Param, FunBody, SuRest, EnRest, Members, MemRest, Enumerators, Enumerator, Declarator, Pdecl, Suffix, Block, Statement, Sub}
 use Rattle.c99_tree.specs.contracts.production.ProductionPartialEq.TheImpl.{ghosts}
 use Rattle.c_types.specs.Types.{CType}
 use Rattle.c_types.specs.Trees.{is_node, is_list, name_below, words_of, first_list}
@@ -30,6 +31,7 @@ use Rattle.reordered_tree_laws.specs.Reordered.{nodes_in}
 use Rattle.reordered_tree_laws.specs.Premises.{is_items, is_scope, is_item_production, declared_name, has_typedef_word, is_quiet_child, is_quiet, is_item}
 use Rattle.reordered_tree_laws.specs.Spread.{tokens_pass}
 use Rattle.reordered_tree_laws.specs.Siblings.{is_between, in_items, tags_follow}
+use Rattle.reordered_tree_laws.proofs.Bags.{item_declarator, item_specs}
 
 -- ---- Numbers between two
 
@@ -45,10 +47,6 @@ between_from lo hi k e = ltb-false k lo (not_false (nat_lt k lo) ((and_parts (no
 
 pub between_before : (lo hi k : ℕ) → is_between lo hi k ≡ true → k < hi
 between_before lo hi k e = ltb-true k hi ((and_parts (not (nat_lt k lo)) (nat_lt k hi) e).1)
-
-pub refuted : (b : Bool) → (b ≡ true → ⊥) → b ≡ false
-refuted true f = absurd (f refl)
-refuted false f = refl
 
 -- what is in no wider range is in no narrower one
 pub between_less : (lo hi lo' hi' k : ℕ) → lo ≤ lo' → hi' ≤ hi → is_between lo hi k ≡ false → is_between lo' hi' k ≡ false
@@ -174,14 +172,6 @@ item_sign SuRest e = absurd (false≢true e)
 item_sign EnRest e = absurd (false≢true e)
 item_sign _ e = refl
 
-item_specs : (p : Production) → is_item_production p ≡ true → ghosts.eq p Specs ≡ false
-item_specs Specs e = absurd (false≢true e)
-item_specs _ e = refl
-
-item_declarator : (p : Production) → is_item_production p ≡ true → ghosts.eq p Declarator ≡ false
-item_declarator Declarator e = absurd (false≢true e)
-item_declarator _ e = refl
-
 item_child : (p : Production) → is_item_production p ≡ true
     → ((not (ghosts.eq p Enumerator) ≡ true) × (not (is_scope p) ≡ true)) × (ghosts.eq p Pdecl ≡ false)
 item_child Enumerator e = absurd (false≢true e)
@@ -202,13 +192,6 @@ pub record IsListed (l m : Label) (first : ℕ) (under : Forest) (lasting : ℕ 
 -- the name of an item that lasts is its declared one
 abbrev pub its_name : Node → ℕ → Bool
 its_name n i = option_map_or (λ j. j == i) (declared_name n) false
-
-pub its_name_is : (n : Node) (i : ℕ) → its_name n i ≡ true → declared_name n ≡ Some i
-its_name_is n i e = by (declared_name n) e
-  where
-    by : (r : Option ℕ) → option_map_or (λ j. j == i) r false ≡ true → r ≡ Some i
-    by None e = absurd (false≢true e)
-    by (Some x) e = ap Some (eqb-true x i e)
 
 item_quiet : (lasting : ℕ → Bool) (l m : Label) (under : Forest) → is_item_production m.production ≡ true → is_quiet_child lasting l m under ≡ true
 item_quiet lasting l m under e =

@@ -5,6 +5,7 @@ use Rattle.std.specs.List.{All}
 use Rattle.std.proofs.lemmas.Bool.{false≢true, ltb-true}
 use Rattle.std.proofs.lemmas.List.Elements.{All-nil, All-weaker, All-append, All-filter}
 use Rattle.cs_base.specs.Token.{Token}
+use Rattle.cs_base.proofs.BoolLemmas.{or_first as first_name, no_case as refuted, or_right as second_name}
 use Rattle.c99_tree.specs.Tree.{Forest, none, node, node_of}
 use Rattle.c99_tree.specs.declared.production.Label.{Label}
 use Rattle.c_types.specs.declared.declarations.Space.TheVariants.{Ordinary, Tags, Members, Inner, Unnamed, Labels}
@@ -30,7 +31,8 @@ use Rattle.reordered_tree_laws.proofs.Quiet.{names_last}
 use Rattle.reordered_tree_laws.proofs.SiblingsApart.{siblings_are_apart}
 use Rattle.reordered_tree_laws.proofs.Signs.{part_adds}
 use Rattle.reordered_tree_laws.proofs.RangesBehind.{Near, ranges_end_behind}
-use Rattle.reordered_tree_laws.proofs.ListForms.{between_yes, between_from, between_before, refuted, between_less, between_out, tokens_beyond, all_front, all_three, filter_none, filter_all, all_pass, item_apart, its_name, its_name_is, IsListed, item_listed, items_plain}
+use Rattle.reordered_tree_laws.proofs.ListForms.{between_yes, between_from, between_before, between_less, between_out, tokens_beyond, all_front, all_three, filter_none, filter_all, all_pass, item_apart, its_name, IsListed, item_listed, items_plain}
+use Rattle.reordered_tree_laws.proofs.Answering.{its_name as its_name_is}
 
 -- ---- What stands beside
 
@@ -55,14 +57,6 @@ no_member : (s : Space) → has_range s ≡ true → is_member s ≡ false
 no_member Ordinary e = refl
 no_member Tags e = refl
 no_member _ e = absurd (false≢true e)
-
-first_name : (a b : Bool) → a ≡ true → (a || b) ≡ true
-first_name true b e = refl
-first_name false b e = absurd (false≢true e)
-
-second_name : (a b : Bool) → b ≡ true → (a || b) ≡ true
-second_name true b e = refl
-second_name false b e = e
 
 module _ (toks : List Token) (barred : ℕ → Bool) (f0 : Facts) (lo : ℕ) (begins : 1 ≤ lo) (clean : f0.fault ≡ None) where
   abbrev pub from_here : ℕ → Bool

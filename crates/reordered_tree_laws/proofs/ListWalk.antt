@@ -4,6 +4,7 @@ use Rattle.std.specs.Prelude.{nat_lt}
 use Rattle.std.specs.List.{All, list_all}
 use Rattle.std.proofs.lemmas.Bool.{false≢true, cases_Bool, ltb-true, ltb-false, and_parts}
 use Rattle.cs_base.specs.Token.{Token}
+use Rattle.cs_base.proofs.BoolLemmas.{or_met as or_not}
 use Rattle.c99_tree.specs.Tree.{Forest, none, token, node}
 use Rattle.c99_tree.specs.declared.production.Label.{Label}
 use Rattle.c99_tree.specs.declared.production.Production.TheVariants.{MemRest, Declarator, Enumerator, SuRest, EnRest}
@@ -23,7 +24,7 @@ use Rattle.reordered_tree_laws.proofs.Arranged.{cut_all}
 use Rattle.reordered_tree_laws.proofs.SameForms.{count-numbered, from-numbered}
 use Rattle.reordered_tree_laws.proofs.MovedTokens.{token_goes}
 use Rattle.reordered_tree_laws.proofs.MovedHeads.{cut_front, count_permuted, heads_stay}
-use Rattle.reordered_tree_laws.proofs.MovedWalk.{IsFitNode, fit_child, fit_shape, or_not, at_places, forgotten}
+use Rattle.reordered_tree_laws.proofs.MovedWalk.{IsFitNode, fit_child, fit_shape, at_places, forgotten}
 use Rattle.reordered_tree_laws.proofs.MovedOrders.{IsStep, step_of, node_enters, node_leaves}
 use Rattle.reordered_tree_laws.specs.Going.{IsLow, IsToldMember, IsKnown, IsFineEnd, AreFineLists, ListsGo}
 use Rattle.reordered_tree_laws.proofs.NodesPass.{is_well, are_well, well_fit, well_numbered, well_permuted}

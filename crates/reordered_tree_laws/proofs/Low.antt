@@ -18,10 +18,11 @@ use Rattle.c_types.specs.Declarations.{Facts}
 use Rattle.scope_bind.specs.Named.{Declaration, Body, Frame}
 use Rattle.scope_bind.specs.Walk.{passed, facts_after, left, walked}
 use Rattle.tree_laws.specs.TreesOfTexts.{token_count, AreFrom, begins_with_token, has_form}
+use Rattle.tree_laws.proofs.TokenEnds.{begins_some}
 use Rattle.reordered_tree_laws.specs.Going.{from_on, IsLow}
 use Rattle.reordered_tree_laws.proofs.NodesPass.{are_well}
 use Rattle.reordered_tree_laws.specs.Owned.{IsOwnName, IsOwnState}
-use Rattle.reordered_tree_laws.proofs.OnlyAdding.{name_in, begins_some}
+use Rattle.reordered_tree_laws.proofs.OnlyAdding.{name_in}
 use Rattle.reordered_tree_laws.proofs.Owned.{passed_own, entered_own, left_own}
 
 -- ---- Fewer tokens

@@ -5,6 +5,7 @@ use Rattle.std.specs.Prelude.{nat_lt, IsPermutation}
 use Rattle.std.specs.Option.{option_or, option_map_or}
 use Rattle.std.proofs.lemmas.Bool.{false≢true, cases_Bool, ltb-true, ltb-false, and_parts, and_from}
 use Rattle.std.proofs.lemmas.List.Sorted.{length_permutation}
+use Rattle.cs_base.proofs.BoolLemmas.{not_true as not_false, not_false as not_true, or_met as or_not}
 use Rattle.c99_tree.specs.Tree.{Forest, none, token, node, Node}
 use Rattle.c99_tree.specs.declared.production.Label.{Label}
 use Rattle.c99_tree.specs.declared.production.Production.{Production}
@@ -22,7 +23,7 @@ use Rattle.reordered_tree_laws.specs.Premises.{is_items, is_spaced, is_bracketed
 use Rattle.reordered_tree_laws.specs.Moving.{AreMovedTo}
 use Rattle.reordered_tree_laws.proofs.Arranged.{length-leaves, leaves-cut, rest_all, cut_all}
 use Rattle.reordered_tree_laws.proofs.Seen.{orders_not_seen}
-use Rattle.reordered_tree_laws.proofs.MovedWalk.{or_not, fit_shape}
+use Rattle.reordered_tree_laws.proofs.MovedWalk.{fit_shape}
 
 -- ---- No list at all
 
@@ -46,10 +47,6 @@ no_list_if : (c : Bool) (k : ℕ) (r : Option ℕ) → (if c then Some k else r)
 no_list_if true k r e = absurd cc
 no_list_if false k r e = (refl, e)
 
-not_true : (c : Bool) → c ≡ false → not c ≡ true
-not_true true e = sym e
-not_true false e = refl
-
 none_free : (f : Forest) → first_list f ≡ None → no_lists f ≡ true
 none_free none e = refl
 none_free (token i rest) e = none_free rest e
@@ -58,10 +55,6 @@ none_free (node l first under rest) e =
     let q = none_or (first_list under) (first_list rest) p.1 in
     and_from (not (is_list l)) (no_lists under && no_lists rest) (not_true (is_list l) p.0)
     (and_from (no_lists under) (no_lists rest) (none_free under q.0) (none_free rest q.1))
-
-not_false : (c : Bool) → not c ≡ true → c ≡ false
-not_false true e = sym e
-not_false false e = refl
 
 free_none : (f : Forest) → no_lists f ≡ true → first_list f ≡ None
 free_none none e = refl

@@ -5,6 +5,7 @@ use Rattle.std.specs.List.{cons_option}
 use Rattle.std.specs.Option.{option_map}
 use Rattle.std.proofs.lemmas.Bool.{and_parts}
 use Rattle.cs_base.specs.Token.{Token}
+use Rattle.cs_base.proofs.BoolLemmas.{and_true as and_all}
 use Rattle.c_types.specs.Declarations.{Facts}
 use Rattle.name_chains.specs.Entering.{is_member, kept_here, with_kept}
 use Rattle.scope_bind.specs.Named.{Declaration}
@@ -82,10 +83,6 @@ abbrev mark_of : Question → Mark
 mark_of (whole a) = a
 mark_of (living a k) = a
 mark_of (listed a l) = a
-
-and_all : (a : Bool) → a ≡ (a && true)
-and_all true = refl
-and_all false = refl
 
 kept_law : (toks : List Token) (list from to : ℕ) (q : Question) (d : Declaration) → is_of_list list d ≡ true
     → answers toks q (stretched from to d) ≡ (has_mark toks (mark_of q) d && holds from to q)

@@ -35,10 +35,6 @@ module _ {X : Type 0} (p r c : X → Bool) (law : (x : X) → c x ≡ (p x && r 
   any_both [] = refl
   any_both (x ∷ xs) = ap (λ b. b || list_any c xs) (law x) ∙ any_step x (filter p xs) (list_any c xs) (p x) (any_both xs)
 
-pub and_true : (a : Bool) → a ≡ (a && true)
-and_true true = refl
-and_true false = refl
-
 pub and_three : (a b c : Bool) → (a && (b && c)) ≡ ((a && b) && c)
 and_three true b c = refl
 and_three false b c = refl

@@ -4,6 +4,7 @@ use Rattle.std.specs.Prelude.{filter, is_some, slice_get}
 use Rattle.std.specs.Option.{option_map, option_map_or}
 use Rattle.std.proofs.lemmas.Bool.{false≢true}
 use Rattle.cs_base.specs.Token.{Token}
+use Rattle.cs_base.proofs.BoolLemmas.{none_and as and_none}
 use Rattle.c_types.specs.declared.declarations.Space.TheVariants.{Ordinary, Tags, Members, Inner, Unnamed, Labels}
 use Rattle.c_types.specs.declared.frames.Position.{Position}
 use Rattle.c_types.specs.declared.frames.Position.TheVariants.{Numbered, Lost, Beyond}
@@ -26,10 +27,6 @@ use Rattle.reordered_tree_laws.proofs.MovedNames.{false_last}
 and_self : (a : Bool) → a ≡ (a && a)
 and_self true = refl
 and_self false = refl
-
-and_none : (a : Bool) → false ≡ (a && false)
-and_none true = refl
-and_none false = refl
 
 pub some_found : (m : ℕ → ℕ) (a b : Option Declaration) → AreFound m a b → is_some b ≡ is_some a
 some_found m None None h = refl

@@ -5,6 +5,7 @@ use Rattle.std.specs.Option.{option_map, option_map_or}
 use Rattle.std.specs.Str.{bytes_eq}
 use Rattle.std.proofs.lemmas.Bool.{eqb-true, lt-ltb, le-ltb}
 use Rattle.cs_base.specs.Token.{Token}
+use Rattle.cs_base.proofs.BoolLemmas.{and_true}
 use Rattle.c_types.specs.declared.entity.EntityKind.{EntityKind}
 use Rattle.c_types.specs.declared.entity.EntityKind.TheVariants.{Typedef, Parameter}
 use Rattle.c_types.specs.declared.entity.Linkage.{Linkage}
@@ -17,7 +18,7 @@ use Rattle.scope_bind.specs.Named.{Declaration, Declared, Body, Frame, Scope, un
 use Rattle.scope_bind.specs.Linkage.{prior_linkage, follows_prior, own_linkage}
 use Rattle.scope_bind.specs.Ordinary.{is_again, linked_entity, entity_of, is_listed, declaration_of, declared_faults, declared, used_as, used, used_type, is_func, plain_name, new_parameter, new_kind, new_type, new_linkage, new_object}
 use Rattle.reordered_tree_laws.specs.Moving.{moved_type, moved_body, moved_frame, IsMoved, named, tagged, joined, living, whole, IsAhead, GoTogether, AreMovedTexts}
-use Rattle.reordered_tree_laws.proofs.MovedLists.{and_true, and_three, AreFound, told_moved}
+use Rattle.reordered_tree_laws.proofs.MovedLists.{and_three, AreFound, told_moved}
 use Rattle.reordered_tree_laws.proofs.MovedFacts.{IsTimed, same_number, number_moved, asked_found, asked_any, fault_moves, occurrence_moves, begun_moves, declaration_moves}
 use Rattle.reordered_tree_laws.proofs.MovedTypes.{type_if, adjusted_moved, renumbered_moved, sort_same}
 

@@ -5,6 +5,7 @@ use Rattle.std.specs.Option.{option_map}
 use Rattle.std.proofs.lemmas.Bool.{false≢true, cases_Bool, ltb-true, ltb-false, and_parts}
 use Rattle.std.proofs.lemmas.List.Sorted.{sum_by-IsPermutation}
 use Rattle.cs_base.specs.Token.{Token}
+use Rattle.cs_base.proofs.BoolLemmas.{or_met as or_not}
 use Rattle.c99_tree.specs.Tree.{Forest, none, token, node}
 use Rattle.c99_tree.specs.declared.production.Label.{Label}
 use Rattle.c99_tree.specs.declared.production.Production.{Production}
@@ -17,6 +18,7 @@ use Rattle.name_chains.specs.Entering.{entered}
 use Rattle.scope_bind.specs.Named.{Frame}
 use Rattle.scope_bind.specs.Walk.{left}
 use Rattle.tree_laws.specs.TreesOfTexts.{token_count, AreFrom, begins_with_token, has_form}
+use Rattle.tree_laws.proofs.TokenEnds.{begins_some, last_none as no_last}
 use Rattle.list_cuts.specs.Cuts.{done, numbers, IsOrder, AreOf}
 use Rattle.reordered_tree_laws.specs.Reordered.{shuffled, is_parenthesised, is_among, permuted, leaves, numbered}
 use Rattle.reordered_tree_laws.specs.Cuts.{cut_then}
@@ -24,13 +26,13 @@ use Rattle.reordered_tree_laws.specs.Seen.{AreSeenAlike}
 use Rattle.reordered_tree_laws.specs.Premises.{is_items, is_spaced, is_bracketed, has_outer_list}
 use Rattle.reordered_tree_laws.specs.Moving.{StatesGo, AreMovedTexts, AreMovedTo}
 use Rattle.reordered_tree_laws.proofs.Seen.{orders_not_seen}
-use Rattle.reordered_tree_laws.proofs.MovedTrees.{AreSeenMoved, AreSpans, seen_numbered, typed_same, last_at, no_last}
+use Rattle.reordered_tree_laws.proofs.MovedTrees.{AreSeenMoved, AreSpans, seen_numbered, typed_same, last_at}
 use Rattle.reordered_tree_laws.proofs.MovedFacts.{same_number}
 use Rattle.reordered_tree_laws.proofs.MovedEntering.{ArePlaced, entered_moves}
 use Rattle.reordered_tree_laws.proofs.MovedLeaving.{DeclaresAt, left_moves}
 use Rattle.reordered_tree_laws.proofs.MovedHeads.{leaves_permute, count_permuted}
 use Rattle.reordered_tree_laws.proofs.MovedPlaces.{bit, hit, hits, hits-sum, hits-append, hits-once, hits-before, hits-behind, leaves-numbers}
-use Rattle.reordered_tree_laws.proofs.MovedWalk.{count_numbered, from_numbered, begins_some, name_some, IsFitNode, or_not, frames_further}
+use Rattle.reordered_tree_laws.proofs.MovedWalk.{count_numbered, from_numbered, name_some, IsFitNode, frames_further}
 
 -- ---- Children of a node that are in another order
 

@@ -251,11 +251,3 @@ last_at (node l first under rest) lo k a some = elim (cases_Bool (nat_lt 0 (toke
       let a' : AreFrom lo rest = subst (λ (n : ℕ). AreFrom n rest) (omega (arith, empty)) a.2 in
       omega (arith, empty, last_at rest lo (last_token under k) a' (omega (arith, some, empty)))
 ]
-
-pub no_last : (f : Forest) (k : ℕ) → token_count f ≡ 0 → last_token f k ≡ k
-no_last none k e = refl
-no_last (token i rest) k e = absurd (omega (arith, e))
-no_last (node l first under rest) k e =
-    let one : token_count under ≡ 0 = omega (arith, e) in
-    let two : token_count rest ≡ 0 = omega (arith, e) in
-    no_last rest (last_token under k) two ∙ no_last under k one

@@ -3,6 +3,7 @@ use Rattle.std.proofs.Common.{ℕ, ◌+◌, ◌≤◌, ◌≡◌, Bool, true, fa
 use Rattle.std.specs.Prelude.{nat_lt}
 use Rattle.std.proofs.lemmas.Bool.{false≢true, cases_Bool, ltb-true, ltb-false, and_parts, or_left, or_right}
 use Rattle.cs_base.specs.Token.{Token}
+use Rattle.cs_base.proofs.BoolLemmas.{both_true, or_met as or_not, or_not-first as or_own}
 use Rattle.c99_tree.specs.Tree.{Forest, none, token, node}
 use Rattle.c99_tree.specs.declared.production.Label.{Label}
 use Rattle.c99_tree.specs.declared.production.Production.{Production}
@@ -14,13 +15,14 @@ use Rattle.name_chains.specs.Entering.{scope_in, entered}
 use Rattle.scope_bind.specs.Named.{Frame, Scope}
 use Rattle.scope_bind.specs.Walk.{passed, left, walked}
 use Rattle.tree_laws.specs.TreesOfTexts.{token_count, AreFrom, begins_with_token, has_form, have_forms}
+use Rattle.tree_laws.proofs.TokenEnds.{begins_some, last_none as no_last}
 use Rattle.reordered_tree_laws.specs.Reordered.{is_among, numbered}
 use Rattle.reordered_tree_laws.specs.Seen.{are_parts}
 use Rattle.reordered_tree_laws.specs.Premises.{is_items, is_bracketed, asks_sign, stands_in, declares_type, has_outer_list, is_fit_child, is_fit}
 use Rattle.reordered_tree_laws.specs.Moving.{moved_frame, IsAhead, FramesGo, StatesGo, AreMovedTexts, AreMovedTo, PartsMoveAlike}
 use Rattle.reordered_tree_laws.proofs.MovedFacts.{further_ahead}
 use Rattle.reordered_tree_laws.proofs.MovedTypes.{asks_front, is_type_name}
-use Rattle.reordered_tree_laws.proofs.MovedTrees.{seen_numbered, spans_moved, last_at, no_last}
+use Rattle.reordered_tree_laws.proofs.MovedTrees.{seen_numbered, spans_moved, last_at}
 use Rattle.reordered_tree_laws.proofs.MovedTokens.{token_goes}
 use Rattle.reordered_tree_laws.proofs.MovedEntering.{ArePlaced, asks_word, is_body, entered_moves}
 use Rattle.reordered_tree_laws.proofs.MovedLeaving.{DeclaresAt, is_declarator, left_moves}
@@ -38,11 +40,6 @@ from_numbered (token i rest) k = (refl, from_numbered rest (k + 1))
 from_numbered (node l first under rest) k =
     (refl, from_numbered under k, subst (λ (n : ℕ). AreFrom (k + n) (numbered (k + token_count under) rest)) (sym (count_numbered under k)) (from_numbered rest (k + token_count under)))
 
-pub begins_some : (f : Forest) → begins_with_token f ≡ true → 1 ≤ token_count f
-begins_some none e = absurd (false≢true e)
-begins_some (token i rest) e = omega arith
-begins_some (node l first under rest) e = absurd (false≢true e)
-
 either_some : (c : Bool) (q r : Option ℕ) (i n k : ℕ) → (if c then q else r) ≡ Some i → (q ≡ Some i → 1 ≤ n) → (r ≡ Some i → 1 ≤ k) → 1 ≤ n + k
 either_some true q r i n k e f g = omega (arith, f e)
 either_some false q r i n k e f g = omega (arith, g e)
@@ -54,15 +51,6 @@ name_some l (node m first under rest) i e =
     either_some (holds_name m.production) (name_below m under) (name_below l rest) i (token_count under) (token_count rest) e (name_some m under i) (name_some l rest i)
 
 -- ---- Forms
-
-pub or_not : (a b : Bool) → (not a || b) ≡ true → a ≡ true → b ≡ true
-or_not true b e h = e
-or_not false b e h = absurd (false≢true h)
-
-pub or_own : (own asks : Bool) → (own || not asks) ≡ true → asks ≡ true → own ≡ true
-or_own true asks e h = refl
-or_own false true e h = e
-or_own false false e h = absurd (false≢true h)
 
 front_sign : (p : Production) (a k : ℕ) → asks_front p a k ≡ true → ((ghosts.eq p Unary && (a == 1)) || (ghosts.eq p Add && not (k == 0))) ≡ true
 front_sign Unary a k e = or_left (a == 1) (ghosts.eq Unary Add && not (k == 0)) e
@@ -97,11 +85,6 @@ pub record IsFitNode (l : Label) (own : Bool) (k : ℕ) (scope : Scope) (keeps :
   pub typed : is_node m Declarator ≡ true → are_parts under ≡ true
   pub names : is_type_name l.production ≡ true → not (is_node m Specs) ≡ true → are_parts under ≡ true
   pub member : (not (is_at m MemRest 1) || begins_with_token under) ≡ true
-
-both_true : (a b : Bool) → a ≡ true → b ≡ true → (a && b) ≡ true
-both_true true true e f = refl
-both_true true false e f = f
-both_true false b e f = e
 
 pub fit_child : (lists : ℕ → Bool) (l : Label) (own : Bool) (k : ℕ) (scope : Scope) (keeps : Bool) (m : Label) (under : Forest)
     → is_fit_child lists l own k scope keeps m under ≡ true → IsFitNode l own k scope keeps m under

@@ -5,6 +5,7 @@ use Rattle.std.proofs.lemmas.Bool.{false≢true, and_parts, and_from, or_parts}
 use Rattle.std.proofs.lemmas.List.Elements.{All-nil, All-cons, All-head, All-tail}
 use Rattle.c99_grammar.specs.declared.dialects.Edition.{Edition}
 use Rattle.cs_base.specs.Token.{Token}
+use Rattle.cs_base.proofs.BoolLemmas.{or_met as or_not}
 use Rattle.c99_tree.specs.Tree.{Forest, none, token, node, Node, node_of}
 use Rattle.c99_tree.specs.declared.production.Label.{Label}
 use Rattle.c99_tree.specs.declared.production.Production.TheVariants.{FunBody, Declarator, Pdirect}
@@ -19,7 +20,6 @@ use Rattle.reordered_tree_laws.specs.Reordered.{nodes_in, is_parenthesised, is_a
 use Rattle.reordered_tree_laws.specs.Premises.{is_items, is_bracketed, has_outer_list, is_item_production}
 use Rattle.reordered_tree_laws.specs.Moving.{AreMovedTexts}
 use Rattle.reordered_tree_laws.proofs.MovedHeads.{count_permuted}
-use Rattle.reordered_tree_laws.proofs.MovedWalk.{or_not}
 use Rattle.reordered_tree_laws.specs.BareNames.{HasBareName, HaveBareNames}
 use Rattle.reordered_tree_laws.proofs.OutlineSteps.{OutlinesGo, token_steps}
 use Rattle.reordered_tree_laws.proofs.Longer.{lengthened, stepped_longer, begun_longer, entered_longer, through_node}

@@ -5,6 +5,7 @@ use Rattle.std.specs.List.{All}
 use Rattle.std.proofs.lemmas.Bool.{false≢true, cases_Bool, and_from, eqb-true, eqb-false, ltb-true, ltb-false, lt-ltb}
 use Rattle.std.proofs.lemmas.List.Elements.{All-weaker}
 use Rattle.cs_base.specs.Token.{Token}
+use Rattle.cs_base.proofs.BoolLemmas.{and_none as off_second}
 use Rattle.c99_tree.specs.Tree.{Forest, none, token, node}
 use Rattle.c99_tree.specs.declared.production.Label.{Label}
 use Rattle.c_types.specs.Declarations.{Facts}
@@ -23,10 +24,6 @@ use Rattle.reordered_tree_laws.specs.Going.{from_on}
 off_first : (a b : Bool) → a ≡ false → (a && b) ≡ false
 off_first true b e = absurd (false≢true (sym e))
 off_first false b e = refl
-
-off_second : (a b : Bool) → b ≡ false → (a && b) ≡ false
-off_second true b e = e
-off_second false b e = refl
 
 module _ (begin at hi token_in_front : ℕ) (some : 1 ≤ begin) where
   -- a token from the list on that is none of the item's, nor the one in front of it

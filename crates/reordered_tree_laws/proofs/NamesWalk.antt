@@ -4,6 +4,7 @@ use Rattle.std.specs.List.{All}
 use Rattle.std.proofs.lemmas.Bool.{false≢true, and_parts}
 use Rattle.std.proofs.lemmas.List.Elements.{All-nil, All-cons, All-head, All-tail}
 use Rattle.cs_base.specs.Token.{Token}
+use Rattle.cs_base.proofs.BoolLemmas.{or_met as or_not}
 use Rattle.c99_tree.specs.Tree.{Forest, none, token, node, Node, node_of}
 use Rattle.c99_tree.specs.declared.production.Label.{Label}
 use Rattle.c99_tree.specs.declared.production.Production.TheVariants.{Declarator}
@@ -16,7 +17,6 @@ use Rattle.reordered_tree_laws.specs.Reordered.{nodes_in, is_parenthesised, is_a
 use Rattle.reordered_tree_laws.specs.Premises.{is_items, is_spaced, is_bracketed, has_outer_list, is_item_production}
 use Rattle.reordered_tree_laws.specs.Moving.{AreMovedTexts}
 use Rattle.reordered_tree_laws.proofs.MovedHeads.{count_permuted}
-use Rattle.reordered_tree_laws.proofs.MovedWalk.{or_not}
 use Rattle.reordered_tree_laws.proofs.Answered.{EntriesGo}
 use Rattle.reordered_tree_laws.proofs.OutlineSteps.{OutlinesGo, outlines_at, unkept, token_steps}
 use Rattle.reordered_tree_laws.proofs.Bags.{AreItems, item_declarator}

@@ -11,7 +11,6 @@ use Rattle.c99_tree.specs.Tree.{Forest, none, token, node, Node, node_of}
 use Rattle.c99_tree.specs.declared.production.Label.{Label}
 use Rattle.c99_tree.specs.declared.production.Production.{Production}
 use Rattle.c99_tree.specs.declared.production.Production.TheVariants.{Args, Params, Declarator, Enumerator}
-use Rattle.c99_tree.specs.contracts.production.ProductionPartialEq.TheImpl.{ghosts}
 use Rattle.c_types.specs.Trees.{is_node}
 use Rattle.c_types.specs.Declarations.{Facts, alike}
 use Rattle.name_chains.specs.Entering.{scope_in}
@@ -21,7 +20,7 @@ use Rattle.tree_laws.specs.TreesOfTexts.{token_count, AreFrom, has_form, have_fo
 use Rattle.list_cuts.specs.Cuts.{done, AreOf, AreItemsOf}
 use Rattle.reordered_tree_laws.specs.Reordered.{nodes_in, no_node, is_among, permuted}
 use Rattle.reordered_tree_laws.specs.Cuts.{cut_then, items_in}
-use Rattle.reordered_tree_laws.specs.Premises.{is_items, is_spaced, has_outer_list, is_fit_child, is_fit, lists_pass, tags_in, declared_name, is_item_production, is_item, is_unasked_in, are_two_apart, are_apart}
+use Rattle.reordered_tree_laws.specs.Premises.{is_items, is_spaced, has_outer_list, is_fit_child, is_fit, lists_pass, tags_in, declared_name, is_item, is_unasked_in, are_two_apart, are_apart}
 use Rattle.reordered_tree_laws.specs.Lasting.{tags_pass}
 use Rattle.reordered_tree_laws.specs.Siblings.{Gain, read_alone, ItemGains, ItemsGain, AreFresh, AlonesClear}
 use Rattle.reordered_tree_laws.specs.Going.{AreFineLists, ListsGo}
@@ -29,6 +28,7 @@ use Rattle.reordered_tree_laws.proofs.TwoOrders.{no_gain, gain_at}
 use Rattle.reordered_tree_laws.proofs.ListWalk.{all_split, fine_rest, fine_behind}
 use Rattle.reordered_tree_laws.proofs.ListEnter.{item_production}
 use Rattle.reordered_tree_laws.proofs.Spots.{Spot, spot_node, end_of, spots, AreSpotsApart}
+use Rattle.reordered_tree_laws.proofs.Bags.{item_declarator as no_declarator}
 
 -- ---- One child
 
@@ -38,10 +38,6 @@ child_by : (lists : ℕ → Bool) (p : Production) (a : ℕ) (own : Bool) (k : �
 child_by lists Args a own k scope keeps m under e = refl
 child_by lists Params a own k scope keeps m under e = refl
 child_by lists _ a own k scope keeps m under e = absurd (false≢true e)
-
-no_declarator : (p : Production) → is_item_production p ≡ true → ghosts.eq p Declarator ≡ false
-no_declarator Declarator e = absurd (false≢true e)
-no_declarator _ e = refl
 
 if_off : (c a b : Bool) → c ≡ false → (if c then a else b) ≡ b
 if_off true a b e = absurd (false≢true (sym e))

@@ -5,6 +5,7 @@ use Rattle.std.specs.Option.{option_map_or}
 use Rattle.std.proofs.lemmas.Bool.{false≢true, and_parts}
 use Rattle.std.proofs.lemmas.List.Elements.{All-nil, All-cons, All-append}
 use Rattle.cs_base.specs.Token.{Token}
+use Rattle.cs_base.proofs.OptionLemmas.{one_place as some_is}
 use Rattle.c99_tree.specs.Tree.{Forest, none, token, node}
 use Rattle.c99_tree.specs.declared.production.Label.{Label}
 use Rattle.c99_tree.specs.declared.production.Production.{Production}
@@ -23,12 +24,10 @@ use Rattle.scope_bind.specs.Ordinary.{is_again, entity_of, is_listed, declaratio
 use Rattle.scope_bind.specs.Roles.{role_if, role_of}
 use Rattle.scope_bind.specs.Walk.{facts_at, passed, declared_in, parameter_in, facts_after, left, walked}
 use Rattle.tree_laws.specs.TreesOfTexts.{token_count, AreFrom, begins_with_token, has_form, have_forms}
+use Rattle.tree_laws.proofs.TokenEnds.{begins_some}
 use Rattle.reordered_tree_laws.specs.Adding.{has_no_list, within_of, is_adding_token, is_adding_declarator, is_adding_node, is_adding, IsNamedIn, IsAddedIn, PartsOnlyAdd}
 
 -- ---- Names of a part
-
-some_is : (i j : ℕ) → Some i ≡ Some j → i ≡ j
-some_is i j e = ap (λ r. option_map_or (λ x. x) r 0) e
 
 name_step : (c : Bool) (j i lo hi : ℕ) (r : Option ℕ) → (if c then Some j else r) ≡ Some i → (lo ≤ j) × (j < hi) → (r ≡ Some i → (lo ≤ i) × (i < hi)) → (lo ≤ i) × (i < hi)
 name_step true j i lo hi r e h rest = (omega (arith, some_is j i e, h.0), omega (arith, some_is j i e, h.1))
@@ -47,11 +46,6 @@ name_in l (node m first under rest) at i lo hi w low high e =
     either_name (holds_name m.production) (name_below m under) (name_below l rest) i lo hi e
     (name_in m under at i lo hi w.1 low (omega (arith, high)))
     (name_in l rest (at + token_count under) i lo hi w.2 (omega (arith, low)) (omega (arith, high)))
-
-pub begins_some : (f : Forest) → begins_with_token f ≡ true → 1 ≤ token_count f
-begins_some none e = absurd (false≢true e)
-begins_some (token i rest) e = omega arith
-begins_some (node l first under rest) e = absurd (false≢true e)
 
 -- ---- What is noted
 

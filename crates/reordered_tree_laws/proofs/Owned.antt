@@ -1,5 +1,5 @@
 -- A part of a unit none of whose tokens stands beside makes known nothing that does.
-use Rattle.std.proofs.Common.{ℕ, zero, suc, ◌+◌, ◌≡◌, Bool, true, false, ◌&&◌, ◌||◌, not, cond, if◌then◌else◌, ◌==◌, List, [], ◌∷◌, ◌++◌, reverse, Option, None, Some, refl, sym, ap, subst}
+use Rattle.std.proofs.Common.{ℕ, zero, suc, ◌+◌, ◌≡◌, Bool, true, false, ◌&&◌, ◌||◌, not, cond, if◌then◌else◌, ◌==◌, List, [], ◌∷◌, ◌++◌, reverse, Option, None, Some, refl, ap, subst}
 use mathlib.Core.List.{reverse-cons}
 use Rattle.std.specs.Prelude.{IfSome, ◌%◌, codes, find, filter, filter_map, is_some, slice_get}
 use Rattle.std.specs.List.{All, cons_option}
@@ -8,6 +8,7 @@ use Rattle.std.specs.Str.{bytes_eq}
 use Rattle.std.proofs.lemmas.Bool.{and_parts}
 use Rattle.std.proofs.lemmas.List.Elements.{All-nil, All-cons, All-head, All-tail, All-append, All-push, All-same, All-filter}
 use Rattle.cs_base.specs.Token.{Token}
+use Rattle.cs_base.proofs.BoolLemmas.{not_true as not_false}
 use Rattle.c99_tree.specs.Tree.{Forest, none, token, node}
 use Rattle.c99_tree.specs.declared.production.Label.{Label}
 use Rattle.c99_tree.specs.declared.production.Production.{Production}
@@ -32,10 +33,6 @@ use Rattle.scope_bind.specs.Walk.{facts_at, found_at, passed, declared_in, param
 use Rattle.reordered_tree_laws.specs.Beside.{IsOwn, IsOwnFrame}
 use Rattle.reordered_tree_laws.specs.Owned.{is_clear, IsOwnName, IsOwnState, PartsStayOwn}
 use Rattle.reordered_tree_laws.proofs.OwnTypes.{own_if, own_adjusted, own_called, own_declarator, own_renumbered, own_after}
-
-not_false : (b : Bool) → not b ≡ true → b ≡ false
-not_false true e = sym e
-not_false false e = refl
 
 found_all : {X : Type 0} (P : X → Type 0) (q : X → Bool) (xs : List X) → All P xs → IfSome (find q xs) P
 found_all P q [] h = tt

@@ -6,6 +6,7 @@ use Rattle.std.specs.Option.{option_map_or}
 use Rattle.std.proofs.lemmas.Bool.{false≢true, cases_Bool, and_parts}
 use Rattle.std.proofs.lemmas.List.Elements.{All-cons, All-weaker, All-head, All-tail}
 use Rattle.cs_base.specs.Token.{Token}
+use Rattle.cs_base.proofs.BoolLemmas.{both_true, not_true as not_false, or_other as or_false, or_met}
 use Rattle.c99_tree.specs.Tree.{Forest, none, token, node}
 use Rattle.c99_tree.specs.declared.production.Label.{Label}
 use Rattle.c99_tree.specs.declared.production.Production.{Production}
@@ -24,23 +25,16 @@ use Rattle.scope_bind.specs.Ordinary.{is_again, entity_of, is_listed, declaratio
 use Rattle.scope_bind.specs.Roles.{role_if, role_of}
 use Rattle.scope_bind.specs.Walk.{facts_at, passed, declared_in, parameter_in, facts_after, left, walked}
 use Rattle.tree_laws.specs.TreesOfTexts.{token_count, AreFrom, has_form, have_forms}
+use Rattle.tree_laws.proofs.TokenEnds.{begins_some}
 use Rattle.reordered_tree_laws.specs.Adding.{has_no_list, within_of, is_adding_token, is_adding_declarator, is_adding_node, is_adding, IsAddedIn}
 use Rattle.reordered_tree_laws.specs.Ranges.{has_range, IsAdded, IsFine}
 use Rattle.reordered_tree_laws.specs.Premises.{is_scope, is_quiet_child, is_quiet}
 use Rattle.reordered_tree_laws.specs.Lasting.{tags_pass, IsLast, IsQuiet, NamesLast}
-use Rattle.reordered_tree_laws.proofs.OnlyAdding.{name_in, begins_some, adds_after, adds_walk}
+use Rattle.reordered_tree_laws.proofs.OnlyAdding.{name_in, adds_after, adds_walk}
 use Rattle.reordered_tree_laws.proofs.Ranges.{last_below, fine_walk}
 
 no_range : {X : Type 0} → false ≡ true → X
 no_range e = absurd (false≢true e)
-
-pub or_met : (a b : Bool) → (not a || b) ≡ true → a ≡ true → b ≡ true
-or_met true b e h = e
-or_met false b e h = absurd (false≢true h)
-
-pub both_true : (a b : Bool) → a ≡ true → b ≡ true → (a && b) ≡ true
-both_true true b e f = f
-both_true false b e f = absurd (false≢true e)
 
 -- what is so of what is noted behind is so of what was noted before
 pub noted_before : (lo hi : ℕ) (P : Occurrence → Type 0) (f g : Facts) → IsAddedIn lo hi f g → All P g.occurrences → All P f.occurrences
@@ -263,10 +257,6 @@ further_quiet : (P : Declaration → Type 0) (lasting : ℕ → Bool) (depth h k
 further_quiet P lasting depth h k ds le all =
     All-weaker (IsQuiet P lasting depth h) (IsQuiet P lasting depth k) (λ d x. further_one P lasting depth h k d le x) ds all
 
-pub or_false : (a b : Bool) → (a || b) ≡ true → a ≡ false → b ≡ true
-or_false true b e h = absurd (false≢true (sym h))
-or_false false b e h = e
-
 -- the parentheses of a list end what stands in them
 ended : (P : Declaration → Type 0) (lasting : ℕ → Bool) (depth behind to : ℕ) (ds : List Declaration) → to ≤ behind
     → All (IsFine (IsQuiet P lasting depth behind) behind to) ds → All (IsQuiet P lasting depth behind) ds
@@ -295,10 +285,6 @@ same_scope Sub l under scope e h = absurd (false≢true (sym h))
 same_scope Statement l under scope e h = absurd (false≢true (sym h))
 same_scope Suffix l under scope e h = ap (λ (c : Bool). if c then inner scope (last_token under 0) else scope) e
 same_scope _ l under scope e h = refl
-
-pub not_false : (b : Bool) → not b ≡ true → b ≡ false
-not_false true e = sym e
-not_false false e = refl
 
 module _ (toks : List Token) (lasting barred : ℕ → Bool) where
   quiet_walk : (f : Forest) (P : Declaration → Type 0) (within : Bool) (lo : ℕ) (s : State) → 1 ≤ lo → AreFrom lo f → have_forms f ≡ true

@@ -1,11 +1,12 @@
 -- A range that a part of a unit adds begins in it, and ends in it or with the scope around it.
-use Rattle.std.proofs.Common.{ℕ, ◌+◌, ◌≤◌, ◌≡◌, Bool, true, false, ◌&&◌, ◌||◌, not, if◌then◌else◌, ◌==◌, List, [], ◌∷◌, Option, None, Some, ◌⊎◌, inl, inr, refl, ap, ◌∙◌, arith}
+use Rattle.std.proofs.Common.{ℕ, ◌+◌, ◌≤◌, ◌≡◌, Bool, true, false, ◌&&◌, ◌||◌, not, if◌then◌else◌, ◌==◌, List, [], ◌∷◌, Option, None, Some, ◌⊎◌, inl, inr, refl, ◌∙◌, arith}
 use Rattle.std.specs.Prelude.{◌%◌, filter_map, is_some}
 use Rattle.std.specs.List.{All, cons_option}
 use Rattle.std.specs.Option.{option_map_or}
 use Rattle.std.proofs.lemmas.Bool.{false≢true, and_parts}
 use Rattle.std.proofs.lemmas.List.Elements.{All-nil, All-cons, All-weaker, All-append}
 use Rattle.cs_base.specs.Token.{Token}
+use Rattle.cs_base.proofs.OptionLemmas.{one_place as some_same}
 use Rattle.c99_tree.specs.Tree.{Forest, none, token, node}
 use Rattle.c99_tree.specs.declared.production.Label.{Label}
 use Rattle.c99_tree.specs.declared.production.Production.{Production}
@@ -24,6 +25,7 @@ use Rattle.scope_bind.specs.Labels.{label_declaration, with_label, jump_to, with
 use Rattle.scope_bind.specs.Roles.{role_if, role_of}
 use Rattle.scope_bind.specs.Walk.{facts_at, passed, declared_in, parameter_in, facts_after, left, walked}
 use Rattle.tree_laws.specs.TreesOfTexts.{token_count, AreFrom, begins_with_token, has_form, have_forms}
+use Rattle.tree_laws.proofs.TokenEnds.{begins_some as begins_more}
 use Rattle.reordered_tree_laws.specs.Ranges.{has_range, IsAdded, IsFine, RangesEndWithScopes}
 
 -- ---- Tokens of a part
@@ -35,9 +37,6 @@ last_below (token i rest) lo k bound w within h =
 last_below (node l first under rest) lo k bound w within h =
     last_below rest (lo + token_count under) (last_token under k) bound w.2 (omega (arith, within))
     (last_below under lo k bound w.1 (omega (arith, within)) h)
-
-some_same : (i j : ℕ) → Some i ≡ Some j → i ≡ j
-some_same i j e = ap (λ r. option_map_or (λ x. x) r 0) e
 
 name_step : (c : Bool) (j i bound : ℕ) (r : Option ℕ) → (if c then Some j else r) ≡ Some i → j + 1 ≤ bound → (r ≡ Some i → i + 1 ≤ bound) → i + 1 ≤ bound
 name_step true j i bound r e h rest = omega (arith, some_same j i e, h)
@@ -55,11 +54,6 @@ name_within l (node m first under rest) lo i bound w within e =
     either_name (holds_name m.production) (name_below m under) (name_below l rest) i bound e
     (name_within m under lo i bound w.1 (omega (arith, within)))
     (name_within l rest (lo + token_count under) i bound w.2 (omega (arith, within)))
-
-begins_more : (f : Forest) → begins_with_token f ≡ true → 1 ≤ token_count f
-begins_more none e = absurd (false≢true e)
-begins_more (token i rest) e = omega arith
-begins_more (node l first under rest) e = absurd (false≢true e)
 
 no_range : {X : Type 0} → false ≡ true → X
 no_range e = absurd (false≢true e)

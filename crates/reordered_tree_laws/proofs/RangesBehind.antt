@@ -6,6 +6,7 @@ use Rattle.std.specs.Option.{option_map_or}
 use Rattle.std.proofs.lemmas.Bool.{false≢true, cases_Bool, and_parts, ltb-true, ltb-false}
 use Rattle.std.proofs.lemmas.List.Elements.{All-cons, All-weaker, All-append}
 use Rattle.cs_base.specs.Token.{Token}
+use Rattle.cs_base.proofs.BoolLemmas.{both_true, not_true as not_false, or_other as or_false, or_met}
 use Rattle.c99_tree.specs.Tree.{Forest, none, token, node}
 use Rattle.c99_tree.specs.declared.production.Label.{Label}
 use Rattle.c99_tree.specs.declared.production.Production.{Production}
@@ -23,14 +24,16 @@ use Rattle.scope_bind.specs.Named.{Space, Cause, Declaration, Declared, Occurren
 use Rattle.scope_bind.specs.Ordinary.{is_again, entity_of, is_listed, declaration_of, declared, used_as, used, is_func, plain_name, with_parameter}
 use Rattle.scope_bind.specs.Roles.{role_if, role_of}
 use Rattle.scope_bind.specs.Walk.{facts_at, passed, declared_in, parameter_in, facts_after, left, walked}
+use Rattle.scope_bind.proofs.ScopeLemmas.{deeper}
 use Rattle.tree_laws.specs.TreesOfTexts.{token_count, AreFrom, has_form, have_forms}
+use Rattle.tree_laws.proofs.TokenEnds.{begins_some}
 use Rattle.reordered_tree_laws.specs.Adding.{has_no_list, within_of, is_adding_token, is_adding_declarator, is_adding_node, is_adding, IsNamedIn, IsAddedIn}
 use Rattle.reordered_tree_laws.specs.Ranges.{has_range}
-use Rattle.reordered_tree_laws.proofs.OnlyAdding.{name_in, begins_some, adds_after, adds_walk}
+use Rattle.reordered_tree_laws.proofs.OnlyAdding.{name_in, adds_after, adds_walk}
 use Rattle.reordered_tree_laws.specs.Premises.{is_scope, is_quiet_child, is_quiet}
 use Rattle.reordered_tree_laws.specs.Lasting.{tags_pass, IsLast}
-use Rattle.reordered_tree_laws.proofs.Quiet.{noted_before, quiet_token, quiet_enter, quiet_after, list_ends, same_scope, or_met, or_false, both_true, not_false}
-use Rattle.reordered_tree_laws.proofs.SiblingsApart.{last_low, deeper, list_deeper}
+use Rattle.reordered_tree_laws.proofs.Quiet.{noted_before, quiet_token, quiet_enter, quiet_after, list_ends, same_scope}
+use Rattle.reordered_tree_laws.proofs.SiblingsApart.{last_low, list_deeper}
 
 no_range : {X : Type 0} → false ≡ true → X
 no_range e = absurd (false≢true e)

@@ -5,6 +5,7 @@ use Rattle.std.specs.Option.{option_map_or}
 use Rattle.std.proofs.lemmas.Bool.{false≢true, and_parts}
 use Rattle.std.proofs.lemmas.List.Elements.{All-nil, All-cons}
 use Rattle.cs_base.specs.Token.{Token}
+use Rattle.cs_base.proofs.BoolLemmas.{not_true}
 use Rattle.c99_tree.specs.Tree.{Forest, none, token, node, Node, node_of}
 use Rattle.c99_tree.specs.declared.production.Label.{Label}
 use Rattle.c99_tree.specs.declared.production.Production.TheVariants.{FunBody, Declarator}
@@ -87,10 +88,6 @@ old_items b end (node l first under rest) lo empty from forms e few =
     (old_items b end rest (lo + token_count under) empty from.2 f.1 p.1 (omega (arith, few)))
 
 -- ---- Items beside one another
-
-not_true : (b : Bool) → not b ≡ true → b ≡ false
-not_true false e = refl
-not_true true e = absurd (false≢true e)
 
 module _ (toks : List Token) where
   of_some : (f : ℕ → Bool) (o : Option ℕ) (i : ℕ) → option_map_or f o true ≡ true → o ≡ Some i → f i ≡ true

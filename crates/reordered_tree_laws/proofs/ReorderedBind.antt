@@ -1,13 +1,15 @@
 -- A text whose lists can get a new order binds alike, where each list goes along.
-use Rattle.std.proofs.Common.{ℕ, ◌+◌, ◌≡◌, Bool, true, false, ◌&&◌, ◌||◌, ◌==◌, List, [], ◌∷◌, length, map, reverse, inl, inr, refl, sym, ap, subst, ◌∙◌, arith}
+use Rattle.std.proofs.Common.{ℕ, ◌+◌, ◌≡◌, Bool, true, false, ◌&&◌, ◌==◌, List, [], ◌∷◌, length, map, reverse, inl, inr, refl, sym, ap, subst, ◌∙◌, arith}
 use Rattle.std.specs.Prelude.{nat_lt}
 use Rattle.std.specs.List.{All, list_all}
 use Rattle.std.specs.Option.{option_map}
-use Rattle.std.proofs.lemmas.Bool.{cases_Bool, ltb-false, ltb-true, eqb-false, and_from, and_parts}
+use Rattle.std.proofs.lemmas.Bool.{cases_Bool, ltb-false, ltb-true, eqb-false, and_from}
 use Rattle.std.proofs.lemmas.List.{length-map}
 use Rattle.std.proofs.lemmas.List.Elements.{All-nil, All-cons, All-head, All-tail}
 use Rattle.std.proofs.lemmas.List.Sorted.{IsPermutation-reverse, IsPermutation-sym, All-permutation}
 use Rattle.cs_base.specs.Token.{Token}
+use Rattle.cs_base.proofs.BoolLemmas.{or_first, or_right as or_second}
+use Rattle.cs_base.proofs.ListLemmas.{all_more}
 use Rattle.c99_tree.specs.Tree.{Forest, Node}
 use Rattle.c_types.specs.Declarations.{Facts, is_in}
 use Rattle.name_chains.specs.Frames.{State, outermost, at_first}
@@ -34,25 +36,11 @@ use Rattle.reordered_tree_laws.proofs.ListWalk.{walk}
 
 -- ---- Lists
 
-or_second : (a b : Bool) → b ≡ true → (a || b) ≡ true
-or_second true b e = refl
-or_second false b e = e
-
-or_first : (a b : Bool) → a ≡ true → (a || b) ≡ true
-or_first true b e = refl
-or_first false b e = absurd cc
-
 itself : (k : ℕ) → (k == k) ≡ true
 itself k = elim (cases_Bool (k == k)) [
   | inl e ↦ e
   | inr e ↦ absurd (eqb-false k k e refl)
 ]
-
-all_more : (p q : ℕ → Bool) → ((k : ℕ) → p k ≡ true → q k ≡ true) → (xs : List ℕ) → list_all p xs ≡ true → list_all q xs ≡ true
-all_more p q f [] e = refl
-all_more p q f (x ∷ xs) e =
-    let s = and_parts (p x) (list_all p xs) e in
-    and_from (q x) (list_all q xs) (f x s.0) (all_more p q f xs s.1)
 
 -- all numbers of a list are in it
 all_in : (xs : List ℕ) → list_all (is_in xs) xs ≡ true

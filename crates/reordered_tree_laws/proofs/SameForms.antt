@@ -4,6 +4,7 @@ use Rattle.std.specs.Prelude.{IsPermutation}
 use Rattle.std.specs.List.{list_any}
 use Rattle.std.proofs.lemmas.List.{length-map, get_or-map, get_or_default, same_lists}
 use Rattle.std.proofs.lemmas.List.Sorted.{IsPermutation-map, list_any-IsPermutation, length_permutation}
+use Rattle.cs_base.proofs.BoolLemmas.{or_assoc as or_joined}
 use Rattle.c99_tree.specs.Tree.{Forest, none, token, node, Node}
 use Rattle.c99_tree.specs.declared.production.Label.{Label}
 use Rattle.c99_tree.specs.declared.production.Production.{Production}
@@ -65,10 +66,6 @@ same_node l i j u v f g s t = record {
 }
 
 -- ---- Nodes in another order
-
-or_joined : (a b c : Bool) → (a || (b || c)) ≡ ((a || b) || c)
-or_joined true b c = refl
-or_joined false b c = refl
 
 pub and_not : (a b c d : Bool) → d ≡ not c → (a && (b && d)) ≡ not (not (a && b) || c)
 and_not true true c d e = e

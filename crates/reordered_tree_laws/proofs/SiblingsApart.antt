@@ -6,19 +6,21 @@ use Rattle.std.specs.Option.{option_map_or}
 use Rattle.std.proofs.lemmas.Bool.{false≢true, and_parts, and_from, or_parts, eqb-true, ltb-true}
 use Rattle.std.proofs.lemmas.List.Elements.{All-nil, All-cons, All-head, All-tail, All-weaker, All-append}
 use Rattle.std.proofs.lemmas.List.Folds.{list_any_none, list_any-append}
-use Rattle.std.proofs.lemmas.Slice.Eq.{bytes_eq-Decides}
 use Rattle.cs_base.specs.Token.{Token}
+use Rattle.cs_base.proofs.BoolLemmas.{not_true as not_false, or_other as or_false, or_met, no_case as refuted}
 use Rattle.c99_tree.specs.Tree.{Forest, none, token, node, Node}
 use Rattle.c99_tree.specs.declared.production.Label.{Label}
 use Rattle.c99_tree.specs.declared.production.Production.{Production}
-use Rattle.c99_tree.specs.declared.production.Production.TheVariants.{ExtRest, InitDecl, FunBody, Main, Params, Primary, SuRest, EnRest, Enumerator, Declarator, Param, Pdecl, Pdirect, Suffix, Block, Statement, Sub}
+use Rattle.c99_tree.specs.declared.production.Production.TheVariants.{ExtRest, InitDecl, FunBody, Main, Params, Primary, SuRest, EnRest, Enumerator, Declarator, Param, Pdecl, Pdirect, Suffix}
 use Rattle.c99_tree.specs.contracts.production.ProductionPartialEq.TheImpl.{ghosts}
 use Rattle.c_types.specs.declared.declarations.Space.TheVariants.{Ordinary, Tags}
 use Rattle.c_types.specs.Trees.{is_node, is_at, is_list, name_below, last_token}
 use Rattle.c_types.specs.Lists.{odd_tokens, even_tokens, name_in, bare_at, bare_in}
-use Rattle.c_types.specs.Declarations.{spelling_at, alike, is_space, is_named, is_live}
-use Rattle.name_chains.specs.Entering.{inner, is_scoped, scope_in}
+use Rattle.c_types.specs.Declarations.{alike, is_space, is_named, is_live}
+use Rattle.c_types.proofs.TokenLemmas.{alike_back}
+use Rattle.name_chains.specs.Entering.{inner, scope_in}
 use Rattle.scope_bind.specs.Named.{Space, Declaration, Scope, ordinary, tags}
+use Rattle.scope_bind.proofs.ScopeLemmas.{deeper}
 use Rattle.tree_laws.specs.TreesOfTexts.{token_count, AreFrom}
 use Rattle.reordered_tree_laws.specs.Adding.{within_of, has_no_list, is_adding_token, is_adding_declarator, is_adding_node, is_adding}
 use Rattle.reordered_tree_laws.specs.Ranges.{has_range}
@@ -31,18 +33,6 @@ use Rattle.reordered_tree_laws.proofs.OnlyAdding as adding
 use Rattle.reordered_tree_laws.proofs.Spread.{name_passes}
 
 -- ---- Spellings, ranges and scopes
-
-alike_back : (toks : List Token) (i j : ℕ) → alike toks i j ≡ true → alike toks j i ≡ true
-alike_back toks i j e =
-    (bytes_eq-Decides (spelling_at toks j) (spelling_at toks i)).1 (sym ((bytes_eq-Decides (spelling_at toks i) (spelling_at toks j)).0 e))
-
-not_false : (b : Bool) → not b ≡ true → b ≡ false
-not_false true e = sym e
-not_false false e = refl
-
-refuted : (b : Bool) → (b ≡ true → ⊥) → b ≡ false
-refuted true f = absurd (f refl)
-refuted false f = refl
 
 ordinary_range : (s : Space) → is_space s ordinary ≡ true → has_range s ≡ true
 ordinary_range Ordinary e = refl
@@ -61,23 +51,6 @@ dead d k at low ended e =
     let p = and_parts (not (nat_lt k d.from)) (nat_lt k d.to) e in
     omega (arith, low, ended, ltb-true k d.to p.1)
 
--- scopes around some children are inside those around their node
-pub deeper : (p : Production) (l : Label) (under : Forest) (scope : Scope) → scope.depth ≤ (scope_in p l under scope).depth
-deeper Block l under scope = omega arith
-deeper FunBody l under scope = omega arith
-deeper Sub l under scope = omega arith
-deeper Suffix l under scope = by (is_list l)
-  where
-    by : (c : Bool) → scope.depth ≤ (if c then inner scope (last_token under 0) else scope).depth
-    by true = omega arith
-    by false = omega arith
-deeper Statement l under scope = by (is_scoped l.alternative)
-  where
-    by : (c : Bool) → scope.depth ≤ (if c then inner scope (last_token under 0 + 1) else scope).depth
-    by true = omega arith
-    by false = omega arith
-deeper _ l under scope = omega arith
-
 pub list_deeper : (p : Production) (l : Label) (under : Forest) (scope : Scope) → is_list l ≡ true → (ghosts.eq p Suffix && (l.alternative == 2)) ≡ true
     → (scope_in p l under scope).depth ≡ scope.depth + 1
 list_deeper Suffix l under scope e h = ap (λ (c : Bool). (if c then inner scope (last_token under 0) else scope).depth) e
@@ -93,14 +66,6 @@ last_low (node l first under rest) lo k bound w low h =
 if_free : (c x : Bool) → (c ≡ true → x ≡ true) → (if c then x else true) ≡ true
 if_free true x h = h refl
 if_free false x h = refl
-
-or_false : (a b : Bool) → (a || b) ≡ true → a ≡ false → b ≡ true
-or_false true b e h = absurd (false≢true (sym h))
-or_false false b e h = e
-
-or_met : (a b : Bool) → (not a || b) ≡ true → a ≡ true → b ≡ true
-or_met true b e h = e
-or_met false b e h = absurd (false≢true h)
 
 -- ---- Lists of used names
 

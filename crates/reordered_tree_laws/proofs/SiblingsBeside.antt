@@ -27,8 +27,9 @@ use Rattle.reordered_tree_laws.specs.Owned.{IsOwnName}
 use Rattle.reordered_tree_laws.specs.Siblings.{frame_behind, read_alone, Gain, gained, noted, is_between, in_items, ItemGains, ItemsGain, AreFresh, AlonesClear, tags_follow, has_signs, IsFineList, ItemsStandBeside, WholesAreClear}
 use Rattle.reordered_tree_laws.proofs.OnlyAdding.{parts_only_add}
 use Rattle.reordered_tree_laws.proofs.Quiet.{noted_before}
-use Rattle.reordered_tree_laws.proofs.ListForms.{between_from, between_before, between_out, items_behind, all_front, all_back, its_name, its_name_is, item_listed, separator_passed, item_walked, list_adds}
+use Rattle.reordered_tree_laws.proofs.ListForms.{between_from, between_before, between_out, items_behind, all_front, all_back, its_name, item_listed, separator_passed, item_walked, list_adds}
 use Rattle.reordered_tree_laws.proofs.ListSteps.{from_here, Behind, behind_none, IsNext, IsStep, step_taken, IsClearStep, step_clear}
+use Rattle.reordered_tree_laws.proofs.Answering.{its_name as its_name_is}
 
 -- ---- Names of the items behind
 

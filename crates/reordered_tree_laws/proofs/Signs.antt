@@ -4,6 +4,7 @@ use Rattle.std.proofs.Common.{ℕ, ◌+◌, ◌≤◌, ◌<◌, ◌≡◌, Bool,
 use Rattle.std.specs.Option.{option_map_or}
 use Rattle.std.proofs.lemmas.Bool.{false≢true, and_parts, and_from}
 use Rattle.cs_base.specs.Token.{Token}
+use Rattle.cs_base.proofs.BoolLemmas.{or_not-first as read_then}
 use Rattle.c99_tree.specs.Tree.{Forest, none, token, node}
 use Rattle.c99_tree.specs.declared.production.Label.{Label}
 use Rattle.c99_tree.specs.declared.production.Production.{Production}
@@ -16,19 +17,15 @@ use Rattle.name_chains.specs.Entering.{entered}
 use Rattle.scope_bind.specs.Named.{Frame}
 use Rattle.scope_bind.specs.Walk.{passed, left, walked}
 use Rattle.tree_laws.specs.TreesOfTexts.{token_count, AreFrom, has_form, have_forms}
+use Rattle.tree_laws.proofs.TokenEnds.{begins_some}
 use Rattle.reordered_tree_laws.specs.Adding.{is_untagged, is_tagged, has_no_list, within_of, names_foreign, is_adding_token, is_adding_declarator, is_adding_parameter, is_adding_node, is_adding}
 use Rattle.reordered_tree_laws.specs.Siblings.{tags_follow}
 use Rattle.reordered_tree_laws.proofs.Adding.{Added, added_none, added_both, add_token, found_stays, after_stays, found_foreign, enter, no_list_in, add_after, owner_foreign}
-use Rattle.reordered_tree_laws.proofs.OnlyAdding.{name_in, begins_some}
+use Rattle.reordered_tree_laws.proofs.OnlyAdding.{name_in}
 
 either_sign : (x y c d : Bool) → ((x && c) || (y && d)) ≡ true → (x || y) ≡ true
 either_sign true y c d e = refl
 either_sign false y c d e = (and_parts y d e).0
-
-read_then : (read sign : Bool) → (read || not sign) ≡ true → sign ≡ true → read ≡ true
-read_then true sign e h = refl
-read_then false true e h = absurd (false≢true e)
-read_then false false e h = absurd (false≢true h)
 
 module _ (toks : List Token) (foreign : ℕ → Bool) (lo hi : ℕ) (mine : (i : ℕ) → lo ≤ i → i < hi → foreign i ≡ true) where
   abbrev every : ℕ → Bool

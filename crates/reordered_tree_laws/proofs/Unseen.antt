@@ -7,13 +7,14 @@ use Rattle.std.proofs.lemmas.Bool.{false≢true, and_parts, ltb-true, eq-eqb}
 use Rattle.std.proofs.lemmas.List.Elements.{All-nil, All-cons, All-head, All-tail}
 use Rattle.c99_grammar.specs.declared.dialects.Edition.{Edition}
 use Rattle.cs_base.specs.Token.{Token}
+use Rattle.cs_base.proofs.BoolLemmas.{not_true}
 use Rattle.c99_tree.specs.Tree.{Forest, none, token, node, Node, node_of}
 use Rattle.c99_tree.specs.declared.production.Label.{Label}
 use Rattle.c99_tree.specs.declared.production.Production.TheVariants.{Pdirect}
 use Rattle.c_types.specs.Trees.{is_at}
 use Rattle.c_types.specs.Declarations.{alike}
+use Rattle.c_types.proofs.TokenLemmas.{alike_back as alike_turned}
 use Rattle.scope_bind.specs.Named.{Scope}
-use Rattle.tree_laws.proofs.Lookups.{alike_turned}
 use Rattle.tree_laws.proofs.Outline.{Entry, Outline}
 use Rattle.reordered_tree_laws.specs.Reordered.{nodes_in}
 use Rattle.reordered_tree_laws.specs.Premises.{declared_name, asked_in, is_unasked_in, are_two_apart, are_apart}
@@ -35,10 +36,6 @@ all_both P Q R f [] h k = All-nil R
 all_both P Q R f (x ∷ xs) h k = All-cons R x xs (f x (All-head P x xs h) (All-head Q x xs k)) (all_both P Q R f xs (All-tail P x xs h) (All-tail Q x xs k))
 
 -- ---- Two items
-
-not_true : (b : Bool) → not b ≡ true → b ≡ false
-not_true false e = refl
-not_true true e = absurd (false≢true e)
 
 module _ (s : Edition) (toks : List Token) where
   -- no tested token of the second item is spelled as the first one is named

@@ -4,6 +4,7 @@ use Rattle.std.specs.List.{All}
 use Rattle.std.specs.Option.{option_map_or}
 use Rattle.std.proofs.lemmas.Bool.{false≢true, cases_Bool, and_parts, or_parts}
 use Rattle.std.proofs.lemmas.List.Elements.{All-cons}
+use Rattle.cs_base.proofs.BoolLemmas.{not_true}
 use Rattle.c99_tree.specs.Tree.{Forest, none, token, node}
 use Rattle.c99_tree.specs.declared.production.Label.{Label}
 use Rattle.c99_tree.specs.declared.production.Production.{Production}
@@ -14,10 +15,10 @@ use Rattle.name_chains.specs.Entering.{inner, is_scoped, scope_in}
 use Rattle.scope_bind.specs.Named.{Scope}
 use Rattle.tree_laws.specs.TreesOfTexts.{token_count, AreFrom, has_body, has_form, have_forms}
 use Rattle.tree_laws.proofs.Outline.{Entry, entry, Outline, added, is_listing, stepped, entries_in, begun, named_entries, in_declaration, in_parameter, entries_after, ended, outlined}
+use Rattle.tree_laws.proofs.TokenEnds.{begins_some}
 use Rattle.reordered_tree_laws.specs.Adding.{is_adding_token, is_adding_declarator, is_adding_node, has_no_list, within_of, is_adding}
 use Rattle.reordered_tree_laws.specs.Premises.{is_scope, is_quiet_child, is_quiet}
 use Rattle.reordered_tree_laws.proofs.MovedTrees.{last_at}
-use Rattle.reordered_tree_laws.proofs.MovedWalk.{begins_some}
 
 -- an entry of the tokens from one on and before another, added in such a scope
 pub record IsWithin (lo hi : ℕ) (scope : Scope) (e : Entry) : Type 0 where
@@ -208,10 +209,6 @@ list_scope : (p : Production) (l : Label) (under : Forest) (s : Scope) → (ghos
     → scope_in p l under s ≡ inner s (last_token under 0)
 list_scope Suffix l under s h q = ap (λ c. if c then inner s (last_token under 0) else s) (q ∙ h)
 list_scope _ l under s h q = absurd (false≢true h)
-
-not_true : (b : Bool) → not b ≡ true → b ≡ false
-not_true false e = refl
-not_true true e = absurd (false≢true e)
 
 no_listing : (p : Production) (a k : ℕ) → ghosts.eq p Params ≡ false → is_listing p a k ≡ false
 no_listing Params a k e = absurd (false≢true (sym e))

@@ -4,3 +4,6 @@ pub mod SameTrees
 pub mod SameNames
 pub mod Readings
 pub mod Laws
+pub mod Alike
+pub mod Whole
+pub mod AlikeLaws

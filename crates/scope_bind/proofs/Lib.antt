@@ -4,3 +4,5 @@ mod LiftLemmas
 mod NameLemmas
 mod BoundLemmas
 mod NamingLemmas
+pub mod ScopeLemmas
+pub mod JoinedLemmas

@@ -15,3 +15,4 @@ pub mod Below
 pub mod Known
 pub mod Marks
 pub mod Told
+pub mod Braced

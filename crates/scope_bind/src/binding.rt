@@ -7,6 +7,7 @@ ghost use Rattle.c_types.specs.Faults.{fault_of};
 ghost use Rattle.scope_bind.specs.Bound.{range_of, typedefs_of, bound_of, bound_after, facts_of, binding_of};
 ghost use Rattle.c_types.specs.Declarations.{is_typedef_name};
 ghost use Rattle.scope_bind.specs.Known.{known};
+ghost use Rattle.c99_tree.specs.Joined.{joined, followed};
 
 use crate::bound::{Bound, Told};
 use crate::facts::Facts;
@@ -80,6 +81,26 @@ fn facts_of<'a>(
     let mut frame = outermost(alloc, count_of(toks)?);
     let mut facts = Facts::new(alloc, toks)?;
     walk(&mut facts, alloc, tree, &mut frame, shown)?;
+    Ok(facts)
+}
+
+// The same of a unit whose tree is told in two parts.
+fn facts_behind<'a>(
+    alloc: Global,
+    toks: &'a [Tok],
+    front: &Tree,
+    rest: &Tree,
+    shown: &mut Shown,
+) -> Result<Facts<'a>, Memory>
+    ensures facts { IfOk result (λ f. f ≡ known toks.now (facts_of toks.now (joined front.now.under rest.now.under))) }
+    ensures lists { OnOk result (shown.new.lists.items ≡ shown.old.lists.items ++ lists_in (joined front.now.under rest.now.under)) }
+    ensures calls { OnOk result (shown.new.calls.items ≡ shown.old.calls.items ++ calls_in (joined front.now.under rest.now.under)) }
+    ensures bare { OnOk result (shown.new.bare.items ≡ shown.old.bare.items ++ bare_in (joined front.now.under rest.now.under)) }
+{
+    let mut frame = outermost(alloc, count_of(toks)?);
+    let mut facts = Facts::new(alloc, toks)?;
+    walk(&mut facts, alloc, front, &mut frame, shown)?;
+    walk(&mut facts, alloc, rest, &mut frame, shown)?;
     Ok(facts)
 }
 
@@ -158,6 +179,41 @@ fn bound_of(alloc: Global, tree: &Tree, facts: &Facts<'_>, shown: Shown) -> Resu
     Bound::new(alloc, count, names, told)
 }
 
+// The bodies of a unit whose tree is told in two parts.
+fn bodies_behind(alloc: Global, front: &Tree, rest: &Tree) -> Result<Vec<Range>, Memory>
+    ensures { IfOk result (λ v. v.items ≡ bodies_in (joined front.now.under rest.now.under)) }
+{
+    let mut bodies = Vec::new(alloc);
+    push_bodies(front, &mut bodies)?;
+    push_bodies(rest, &mut bodies)?;
+    Ok(bodies)
+}
+
+// The same as `bound_of` of such a unit.
+fn told_behind(
+    alloc: Global,
+    front: &Tree,
+    rest: &Tree,
+    facts: &Facts<'_>,
+    shown: Shown,
+) -> Result<Bound, Memory>
+    requires lists { shown.lists.items ≡ lists_in (joined front.now.under rest.now.under) }
+    requires calls { shown.calls.items ≡ calls_in (joined front.now.under rest.now.under) }
+    requires bare { shown.bare.items ≡ bare_in (joined front.now.under rest.now.under) }
+    ensures { IfOk result (λ b. b ≡ bound_of (joined front.now.under rest.now.under) facts.now.facts) }
+{
+    let count = facts.toks().len();
+    let names = names_of(alloc, count, facts)?;
+    let told = Told {
+        declarators: declarators_of(alloc, count, names.as_slice(), shown.lists)?,
+        calls: shown.calls,
+        functions: bodies_behind(alloc, front, rest)?,
+        bare: shown.bare,
+        typedefs: typedefs_of(alloc, facts)?,
+    };
+    Bound::new(alloc, count, names, told)
+}
+
 /// The binding, or the first fault, of what is known at the end of the unit.
 pub fn bound_unless(
     alloc: Global,
@@ -173,6 +229,25 @@ pub fn bound_unless(
     match facts.fault() {
         Some(fault) => Err(refusal(fault)),
         None => Ok(bound_of(alloc, tree, facts, shown)?),
+    }
+}
+
+/// The same of a unit whose tree is told in two parts: its first external declarations, and the others.
+pub fn bound_behind(
+    alloc: Global,
+    front: &Tree,
+    rest: &Tree,
+    facts: &Facts<'_>,
+    shown: Shown,
+) -> Result<Bound, BindRefusal>
+    requires lists { shown.lists.items ≡ lists_in (joined front.now.under rest.now.under) }
+    requires calls { shown.calls.items ≡ calls_in (joined front.now.under rest.now.under) }
+    requires bare { shown.bare.items ≡ bare_in (joined front.now.under rest.now.under) }
+    ensures { Gives (λ b. b) fault_of result (bound_after (joined front.now.under rest.now.under) facts.now.facts) }
+{
+    match facts.fault() {
+        Some(fault) => Err(refusal(fault)),
+        None => Ok(told_behind(alloc, front, rest, facts, shown)?),
     }
 }
 
@@ -200,4 +275,18 @@ pub fn bind(alloc: Global, toks: &[Tok], tree: &Tree) -> Result<Bound, BindRefus
     let mut shown = Shown::new(alloc);
     let facts = facts_of(alloc, toks, tree, &mut shown)?;
     bound_unless(alloc, tree, &facts, shown)
+}
+
+/// The same of a unit whose tree is told in two parts: its first external declarations, and the others.
+pub fn bind_behind(
+    alloc: Global,
+    toks: &[Tok],
+    front: &Tree,
+    rest: &Tree,
+) -> Result<Bound, BindRefusal>
+    ensures answer { Gives (λ b. b) fault_of result (binding_of toks.now (followed front.now rest.now)) }
+{
+    let mut shown = Shown::new(alloc);
+    let facts = facts_behind(alloc, toks, front, rest, &mut shown)?;
+    bound_behind(alloc, front, rest, &facts, shown)
 }

@@ -3,15 +3,17 @@ ghost use Rattle.std.specs.Prelude.{◌≡◌, ◌+◌, ◌||◌, ◌==◌, [], 
 ghost use Rattle.c99_tree.specs.declared.production.Production.TheVariants.{Members as MembersNode, Enumerators as EnumeratorsNode, InitItem as InitItemNode};
 ghost use Rattle.scope_bind.specs.Known.{known};
 ghost use Rattle.name_chains.specs.Entering.{inner, is_scoped, scope_in, body_in, listing_in, alone_in, owner_in, given_in, position_in, with_kept, facts_in, found_in, frame_in};
-ghost use Rattle.c_types.specs.Trees.{last_token, has_node};
+ghost use Rattle.c_types.specs.Children.{from_child};
+ghost use Rattle.c_types.specs.Trees.{is_node, last_token};
+ghost use Rattle.scope_bind.specs.Braced.{has_list};
 ghost use Rattle.c_types.specs.Types.{called, array, arithmetic};
 
 use crate::facts::Facts;
 use crate::initializers::element_of;
 use crate::tags::{new_record, number_in};
 use c_types::{
-    Base, Body, CType, Frame, Position, Scope, first_token, has_node, is_bare, is_list, is_node,
-    last_token,
+    Base, Body, CType, Frame, Part, Position, Scope, child_at, first_token, is_bare, is_list,
+    is_node, last_token,
 };
 use c99_tree::{Label, Production, Tree};
 use cs_base::Memory;
@@ -142,10 +144,35 @@ fn position_in(label: Label, f: &Frame) -> Position
     }
 }
 
-fn has_list(tree: &Tree) -> bool
-    ensures { result ≡ (has_node MembersNode tree.now.under || has_node EnumeratorsNode tree.now.under) }
+// A list in braces behind a tag: members, or enumerators.
+fn is_braced(label: Label) -> bool
+    ensures { result ≡ (is_node label MembersNode || is_node label EnumeratorsNode) }
 {
-    has_node(tree, Production::Members) || has_node(tree, Production::Enumerators)
+    is_node(label, Production::Members) || is_node(label, Production::Enumerators)
+}
+
+// Child `k` is one.
+fn is_braced_at(tree: &Tree, k: u32) -> bool
+    ensures { has_list (from_child k tree.now.under) ≡ (result || has_list (from_child (k + 1) tree.now.under)) }
+{
+    match child_at(tree, k) {
+        Part::End => false,
+        Part::Token(_) => false,
+        Part::Node(inner) => is_braced(inner.label()),
+    }
+}
+
+// A child of the node is one.
+fn has_list(tree: &Tree) -> bool
+    ensures { result ≡ has_list tree.now.under }
+{
+    let count = tree.len();
+    'children: for k in 0..count {
+        if is_braced_at(tree, k) {
+            return true;
+        }
+    }
+    false
 }
 
 impl Facts<'_> {

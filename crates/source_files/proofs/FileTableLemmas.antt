@@ -308,8 +308,3 @@ pub file_table-pushed : (paths paths' : List (List ℕ)) (slots slots' : List Sl
     → paths' ≡ paths ++ path ∷ [] → slots' ≡ slots ++ s ∷ [] → found_at path (table_of paths slots) ≡ None → is_utf8 path ≡ true
     → IsNumbered (length (table_of paths slots)) path s → length slots < 2 ^ 32 - 2 → IsFileTable paths' slots'
 file_table-pushed paths paths' slots slots' path s is h k fresh text new few = rw (h, k) (file_table-push paths slots path s is fresh text new few)
-
-pub slice_get-at : {X : Type 0} (xs : List X) (i : ℕ) (x : X) → i < length xs → x ≡ get_or xs i x → slice_get xs i ≡ Some x
-slice_get-at [] i x h k = absurd (omega (arith, h))
-slice_get-at (y ∷ xs) zero x h k = ap (λ z. Some z) (sym k)
-slice_get-at (y ∷ xs) (suc i) x h k = slice_get-at xs i x (omega (arith, h)) k

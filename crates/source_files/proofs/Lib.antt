@@ -10,3 +10,4 @@ pub mod CandidateLemmas
 pub mod SourcesLemmas
 -- Words of the crates below, passed on.
 pub mod Below
+pub mod KeptLemmas

@@ -43,7 +43,7 @@ readable-small n bytes h =
 
 -- ---- the table once a file is opened
 
-same_found : (a b : Found) → ◌≡◌ {A = Option Found} (Some a) (Some b) → a ≡ b
+pub same_found : (a b : Found) → ◌≡◌ {A = Option Found} (Some a) (Some b) → a ≡ b
 same_found a b h = grind (arith, h)
 
 module _ (path bytes : List ℕ) where

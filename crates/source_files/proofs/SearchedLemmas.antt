@@ -54,11 +54,6 @@ pub search-end : (source : Source) (paths : List (List ℕ)) (i : ℕ) (t : Tabl
 unfolding search
 search-end source paths i t past = rw (drop-past paths i past) refl
 
-pub get_or-default : {X : Type 0} (xs : List X) (i : ℕ) (d e : X) → i < length xs → get_or xs i d ≡ get_or xs i e
-get_or-default [] i d e h = absurd (omega (arith, h))
-get_or-default (x ∷ xs) zero d e h = refl
-get_or-default (x ∷ xs) (suc i) d e h = get_or-default xs i d e (omega (arith, h))
-
 -- ---- paths that can be asked for
 
 pub asked-text : (path : List ℕ) → can_be_asked path ≡ true → IsUtf8 path

@@ -50,7 +50,7 @@ found-opened path bytes f (e ∷ t) h =
     ]
 
 -- the kept file of a path that stands for one
-kept-at : (path bytes : List ℕ) (f : Found) (t : Table) → found_at path t ≡ Some f → kept_bytes f ≡ Some bytes
+pub kept-at : (path bytes : List ℕ) (f : Found) (t : Table) → found_at path t ≡ Some f → kept_bytes f ≡ Some bytes
     → kept_at t (number_of path t) ≡ Some (kept (number_of path t) path bytes)
 kept-at path bytes f t h is =
     ap (option_and_then (kept_in (number_of path t))) (entry-at path f t h)
@@ -63,7 +63,7 @@ pub record OpenedAs (t u : Table) (file : SourceFile) : Type 0 where
   pub is_kept : source_at u file.number ≡ Some file
   pub widens : (source : Source) → Widens source t u
 
-same_ok : (a b : SourceFile × Table) → ◌≡◌ {A = Opening} (Ok a) (Ok b) → a ≡ b
+pub same_ok : (a b : SourceFile × Table) → ◌≡◌ {A = Opening} (Ok a) (Ok b) → a ≡ b
 same_ok a b h = cc
 
 read-as : (t u v : Table) (place : Place) (number : ℕ) (path bytes : List ℕ) (file : SourceFile) (r : Result TextValue LexFault) → file_text number bytes ≡ r

@@ -1,5 +1,5 @@
 -- The table of files: how it grows.
-use Rattle.std.proofs.Common.{◌≡◌, ℕ, true, false, cond, List, [], ◌∷◌, ◌++◌, Option, None, Some, is_some, refl, sym, ◌∙◌, ap, subst, inl, inr, arith}
+use Rattle.std.proofs.Common.{◌≡◌, ℕ, true, false, cond, List, [], ◌∷◌, ◌++◌, Option, None, Some, is_some, refl, sym, ◌∙◌, ap, subst, inl, inr}
 use Rattle.std.specs.Prelude.{IfSome}
 use Rattle.std.specs.List.{list_any}
 use Rattle.std.specs.Str.{bytes_eq}
@@ -12,6 +12,7 @@ use Rattle.source_files.specs.Files.{Source, source_of, Found, Lines, Absent, Un
 use Rattle.source_files.specs.Tables.{StaysHeld, OnlyAsks, Becomes, IsGrown, IsFound, AreFound, paths_in, HasEachOnce, Widens}
 use Rattle.source_files.specs.Slots.{IsRead}
 use Rattle.source_files.specs.Answers.{ReadsOn}
+use Rattle.source_files.proofs.OpeningLemmas.{same_found as some_same}
 
 -- ---- one after another
 
@@ -102,9 +103,6 @@ pub widens_asked : (source : Source) (path : List ℕ) (t : Table) → Widens so
 widens_asked source path t = asked_by source path t (found_at path t) refl
 
 -- ---- a file that is opened
-
-some_same : (a b : Found) → ◌≡◌ {A = Option Found} (Some a) (Some b) → a ≡ b
-some_same a b h = grind (arith, h)
 
 opened_found : (e : Entry) (path bytes : List ℕ) (t : Table) → bytes_eq path e.path ≡ true → found_at path (e ∷ t) ≡ Some (Unopened bytes)
     → e.found ≡ Unopened bytes

@@ -58,7 +58,8 @@ pub fn is_header(tok: &Tok) -> bool
     }
 }
 
-fn is_string(tok: &Tok) -> bool
+/// A string literal.
+pub fn is_string(tok: &Tok) -> bool
     ensures { result ≡ is_string tok.now.kind }
 {
     match tok.kind() {
@@ -206,8 +207,8 @@ pub fn header_of_toks(alloc: Global, toks: &[Tok]) -> Result<Option<Header>, Mem
     }
 }
 
-// The index of the first `>`.
-fn greater_at(toks: &[Tok]) -> Option<usize>
+/// The index of the first `>`.
+pub fn greater_at(toks: &[Tok]) -> Option<usize>
     ensures answer { result ≡ position is_greater toks.now }
     ensures within { IfSome result (λ k. k < length toks.now) }
 {

@@ -27,10 +27,13 @@ mod status;
 pub use cache::Cache;
 pub use candidates::{behind_of, candidates_of};
 pub use edit_refusal::EditRefusal;
-pub use header::{Header, begins_header, header_at, header_in, header_of_toks, is_header};
+pub use header::{
+    Header, begins_header, greater_at, header_at, header_in, header_of_toks, is_header, is_string,
+};
 pub use kept_file::KeptFile;
 pub use lexer::FileText;
 pub use line_shape::{GnuLine, Item, ItemKind};
 pub use opening::{first_place, open_file};
 pub use pre_fault::{PreFault, fault_at, fault_there};
 pub use searching::{ask_bytes, search};
+pub use signs::is_less;

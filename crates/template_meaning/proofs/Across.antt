@@ -18,13 +18,14 @@ use Rattle.ws_file.specs.Workspace.{WorkspaceValue}
 use Rattle.analysis.specs.Analysis.{UnitAnalysis, AnalysisValue}
 use Rattle.list_cuts.specs.Cuts.{Cut, done, keep, list, span_of}
 use Rattle.expansion_laws.specs.Arranging.{in_lists, IsSign, RunsHaveCuts}
-use Rattle.reordered_text_laws.specs.Marks.{marks_of, first_of, last_after, last_of, IsMarked, Each, AreOfList}
+use Rattle.reordered_text_laws.specs.Marks.{marks_of, first_of, last_of, IsMarked, Each, AreOfList}
 use Rattle.reordered_text_laws.proofs.MarkLemmas.{cut_lists}
 use Rattle.tree_laws.proofs.Lookups.{In}
 use Rattle.reordered_text_laws.specs.Runs.{Closes, AreSigned}
 use Rattle.reordered_text_laws.specs.Trees.{IsAmong}
 use Rattle.reordered_text_laws.proofs.PartMarks.{later_by, HasPart, part_marks, beside_of, each_among}
 use Rattle.reordered_text_laws.proofs.SignLemmas.{signed_marks_stand}
+use Rattle.reordered_text_laws.proofs.Across.{last_is as last_so}
 use Rattle.unit_laws.specs.Reordered.{part_of, IsProcessed}
 use Rattle.unit_laws.specs.TokenRuns.{TokenRun}
 use Rattle.template_rules.specs.FileLists.{character_in, characters_of}
@@ -77,10 +78,6 @@ closes_from out all b (m ∷ k ∷ ms) stand lt h = (sign_from _ out all b m sta
 pub signed_from : (out all : List Token) (b : ℕ) (ms : List ℕ) → ((k : ℕ) (t : Token) → slice_get out k ≡ Some t → slice_get all (b + k) ≡ Some t) → Each (λ m. m < length out) ms → AreSigned all (later_by b ms) → AreSigned out ms
 signed_from out all b [] stand lt h = h
 signed_from out all b (m ∷ ms) stand lt h = (sign_from _ out all b m stand lt.0 h.0, closes_from out all b ms stand lt.1 h.1)
-
-last_so : (m : ℕ) (ms : List ℕ) (k : ℕ) → last_after m (ms ++ k ∷ []) ≡ k
-last_so m [] k = refl
-last_so m (x ∷ ms) k = last_so x ms k
 
 -- ---- positions
 

@@ -1,5 +1,5 @@
 -- In each processing of a run the lists of the functions are the same.
-use Rattle.std.proofs.Common.{◌≡◌, ℕ, zero, suc, ◌+◌, ◌<◌, ◌⊎◌, inl, inr, ◌||◌, not, Bool, true, false, List, [], ◌∷◌, length, Option, None, Some, refl, ap, subst, ◌∙◌, arith}
+use Rattle.std.proofs.Common.{◌≡◌, ℕ, zero, suc, ◌+◌, ◌⊎◌, inl, inr, Bool, true, false, List, [], ◌∷◌, length, Option, None, Some, refl, ap, subst, ◌∙◌, arith}
 use Rattle.std.specs.Prelude.{slice_get}
 use Rattle.std.specs.List.{list_any, list_all}
 use Rattle.std.specs.Option.{option_map_or}
@@ -7,6 +7,8 @@ use Rattle.std.proofs.lemmas.Bool.{false≢true, and_parts, or_cases}
 use Rattle.std.proofs.lemmas.Option.{same_Some}
 use Rattle.cs_base.specs.declared.positions.Part.{Part}
 use Rattle.cs_base.specs.Token.{Token}
+use Rattle.cs_base.proofs.ListLemmas.{below_length as within}
+use Rattle.cs_base.proofs.BoolLemmas.{or_met as not_or}
 use Rattle.c_types.specs.declared.lists.List.{List as NameList}
 use Rattle.unit_steps.specs.declared.events.Reached.{Reached}
 use Rattle.analysis.specs.Analysis.{UnitAnalysis, AnalysisValue}
@@ -30,11 +32,6 @@ any_at test (x ∷ xs) h = elim (or_cases (test x) (list_any test xs) h) [
   | inr later ↦ let r = any_at test xs later in (r.0, ((suc r.1.0.0, r.1.0.1), r.1.1))
 ]
 
-within : {X : Type 0} (xs : List X) (k : ℕ) (x : X) → slice_get xs k ≡ Some x → k < length xs
-within [] k x at = absurd (cc)
-within (y ∷ xs) zero x at = omega arith
-within (y ∷ xs) (suc k) x at = let h = within xs k x at in omega (arith, h)
-
 mark_passes : (test : ℕ → Bool) (l : NameList) (k : ℕ) → each_mark test l ≡ true → IsMarkOf l k → test k ≡ true
 mark_passes test l k h (inl e) = ap test e ∙ (and_parts (test l.name) _ h).0
 mark_passes test l k h (inr (inl e)) = ap test e ∙ (and_parts (test l.begin) _ (and_parts (test l.name) _ h).1).0
@@ -42,10 +39,6 @@ mark_passes test l k h (inr (inr (inl e))) =
     ap test e ∙ (and_parts (list_all test l.commas) (test l.close) (and_parts (test l.begin) _ (and_parts (test l.name) _ h).1).1).1
 mark_passes test l k h (inr (inr (inr i))) =
     all_pass test l.commas k i.0 (and_parts (list_all test l.commas) (test l.close) (and_parts (test l.begin) _ (and_parts (test l.name) _ h).1).1).0 i.1
-
-not_or : (a b : Bool) → (not a || b) ≡ true → a ≡ true → b ≡ true
-not_or true b h e = h
-not_or false b h e = absurd (false≢true e)
 
 module _ (a : AnalysisValue) (members : List Part) (u : UnitAnalysis) (l : NameList) (k : ℕ) where
   abbrev toks : List Token

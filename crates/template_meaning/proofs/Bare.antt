@@ -4,6 +4,7 @@ use Rattle.std.specs.Prelude.{◌==◌, ◌%◌}
 use Rattle.std.specs.List.{list_all}
 use Rattle.std.proofs.lemmas.Bool.{cases_Bool, false≢true, and_parts, and_from, eqb-true, eq-eqb}
 use Rattle.std.proofs.lemmas.List.Folds.{list_all-append}
+use Rattle.cs_base.proofs.BoolLemmas.{or_first}
 use Rattle.c99_tree.specs.Tree.{Forest, none, token, node}
 use Rattle.c99_tree.specs.declared.production.Label.{Label}
 use Rattle.c99_tree.specs.declared.production.Production.{Production}
@@ -18,10 +19,6 @@ use Rattle.tree_laws.specs.TreesOfTexts.{is_name_place, names_pass}
 listed_role : (p : Production) (a k : ℕ) → ghosts.eq p Params ≡ true → (a == 1) ≡ true → (k % 2 == 0) ≡ true → not (is_plain_role (role_of p a k)) ≡ true
 listed_role Params a k same one even = rw (one, even) refl
 listed_role _ a k same one even = absurd (false≢true same)
-
-or_first : (a b : Bool) → a ≡ true → (a || b) ≡ true
-or_first true b e = refl
-or_first false b e = absurd (false≢true e)
 
 or_second : (a b c : Bool) → b ≡ true → (a || (b || c)) ≡ true
 or_second true b c e = refl

@@ -3,9 +3,10 @@ use Rattle.std.proofs.Common.{ℕ, zero, suc, ◌+◌, ◌≡◌, ◌⊎◌, inl
 use Rattle.std.specs.Prelude.{slice_get, ◌==◌}
 use Rattle.std.specs.List.{list_all}
 use Rattle.std.proofs.lemmas.Bool.{false≢true, and_parts, and_from, or_left, or_right}
-use Rattle.std.proofs.lemmas.Option.{same_Some}
 use Rattle.c99_grammar.specs.declared.dialects.Edition.{Edition}
 use Rattle.cs_base.specs.Token.{Token}
+use Rattle.cs_base.proofs.BoolLemmas.{or_met as implied}
+use Rattle.cs_base.proofs.ListLemmas.{passes-at as row_at}
 use Rattle.c99_tree.specs.Tree.{Forest, none, token, node, Node, leaf, inner, put, lone, collapsed}
 use Rattle.c99_tree.specs.declared.production.Label.{Label}
 use Rattle.c99_tree.specs.declared.production.Production.{Production}
@@ -17,7 +18,6 @@ use Rattle.c99_read.specs.State.{State, class_at, collapses, finished, acted, op
 use Rattle.c99_read.specs.Reading.{Goal, produce, repeat, Step, and_then, deepest, take_one, at_end, enter, may, step, alternative, pick, run, read_within, steps_for, whole, at_first, tree_of, read_of}
 use Rattle.tree_laws.specs.Shapes.{has_no_declaring, parts_all, goal_all, passes_on}
 use Rattle.tree_laws.proofs.Walked.{After, after_if, with_token}
-use Rattle.tree_laws.proofs.NameClasses.{implied}
 use Rattle.template_meaning.specs.Children.{Child, a_token, a_node, children, is_operand, StandsFor, AreTimes, AreOfItem, EachNode, IsInner, IsOfAlternative, whole_of, ChildrenAreOfAlternatives}
 use Rattle.template_meaning.proofs.InnerTable.{can_none, is_lone_operand, stays_inner, inner_at}
 
@@ -102,11 +102,6 @@ lone_operand (maybe a) w q ok (inl h) e = lone_operand a w q ok h e
 lone_operand (maybe a) w q ok (inr h) e = let no : [] ≡ a_node q ∷ [] = sym h ∙ e in absurd (cc)
 lone_operand (many t a) w q ok (n, h) e = times_operand (AreOfItem a) q (λ v x f. lone_operand a v q ok x f) n w h e
 lone_operand (deep a) w q ok h e = lone_operand a w q ok h e
-
-row_at : {X : Type 0} (p : X → Bool) (rows : List X) (k : ℕ) (x : X) → list_all p rows ≡ true → slice_get rows k ≡ Some x → p x ≡ true
-row_at p [] k x all at = absurd (cc)
-row_at p (y ∷ rows) zero x all at = subst (λ (z : _). p z ≡ true) (same_Some y x at) (and_parts (p y) (list_all p rows) all).0
-row_at p (y ∷ rows) (suc k) x all at = row_at p rows k x (and_parts (p y) (list_all p rows) all).1 at
 
 -- ---- What an item adds
 

@@ -8,6 +8,7 @@ use Rattle.cs_base.specs.declared.causes.Cause.TheVariants as cause
 use Rattle.cs_base.specs.declared.positions.Part.{Part}
 use Rattle.cs_base.specs.declared.positions.Pos.{Pos}
 use Rattle.cs_base.specs.Token.{Token}
+use Rattle.cs_base.proofs.ListLemmas.{front_none as nil_left, nil_behind as nil_right}
 use Rattle.c_types.specs.Declarations.{is_in}
 use Rattle.c_types.specs.declared.lists.List.{List as NameList}
 use Rattle.c_types.specs.declared.parameters.ParameterList.{ParameterList}
@@ -27,7 +28,7 @@ use Rattle.analysis.specs.GnuUnits.{gnu_places}
 use Rattle.analysis.specs.Places.{is_read_only}
 use Rattle.offences.specs.declared.firsts.Offence.{Offence}
 use Rattle.offences.specs.First.{offence, standing}
-use Rattle.edited_unit_laws.proofs.ListLemmas.{In, nil_left, nil_right, map_nil, cons_nil, flat_nil}
+use Rattle.edited_unit_laws.proofs.ListLemmas.{In, map_nil, cons_nil, flat_nil}
 use Rattle.list_cuts.specs.Cuts.{numbers}
 use Rattle.template_rules.specs.Functions.{origin_of, place_of, holds_at, is_function, declares_function}
 use Rattle.template_rules.specs.Insides.{inside_offences, list_insides, unit_insides, all_insides, all_macro_names}

@@ -4,6 +4,8 @@ use Rattle.std.specs.Prelude.{◌==◌, ◌%◌, slice_get}
 use Rattle.std.specs.List.{list_all}
 use Rattle.std.proofs.lemmas.Bool.{cases_Bool, false≢true, and_parts, or_cases, eq-eqb, ne_eqb}
 use Rattle.std.proofs.lemmas.Option.{same_Some}
+use Rattle.cs_base.proofs.BoolLemmas.{or_met as implied}
+use Rattle.cs_base.proofs.NumberLemmas.{even_next, odd_next}
 use Rattle.c99_grammar.specs.declared.dialects.Edition.{Edition}
 use Rattle.c99_tree.specs.Tree.{Forest, none, token, node, Node}
 use Rattle.c99_tree.specs.declared.production.Label.{Label}
@@ -21,7 +23,6 @@ use Rattle.c_types.specs.Trees.{is_at, is_list}
 use Rattle.tree_laws.specs.TreesOfTexts.{token_count, AreFrom}
 use Rattle.tree_laws.specs.Shapes.{has_no_declaring}
 use Rattle.c99_read.proofs.C99Sound.{iso-sound}
-use Rattle.tree_laws.proofs.NameClasses.{implied}
 use Rattle.list_cuts.specs.Cuts.{Cut, done, count_of, AreOf, AreItemsOf}
 use Rattle.reordered_tree_laws.specs.Reordered.{is_among}
 use Rattle.reordered_tree_laws.specs.Cuts.{cut_then, list_then, items_in, cut_in}
@@ -111,12 +112,6 @@ module _ (n : ℕ) (lists : ℕ → Bool) where
 
 -- ---- What stands in a list
 
-odd_next : (k : ℕ) → k % 2 ≡ 0 → (k + 1) % 2 ≡ 1
-odd_next k e = omega (arith, e)
-
-even_next : (k : ℕ) → k % 2 ≡ 1 → (k + 1) % 2 ≡ 0
-even_next k e = omega (arith, e)
-
 mutual
   -- the commas between items
   items_commas : (ok : Production → Bool) (f : Forest) (k : ℕ) → are_items false ok (children f) ≡ true → k % 2 ≡ 0 → length (odd_tokens k f) + 1 ≡ item_count f
@@ -135,7 +130,7 @@ mutual
       let behind = more_commas ok rest (k + 1 + 1) (and_parts (ok l.production) (are_more false ok (children rest)) w).1 (odd_next (k + 1) (even_next k odd)) in
       rw here (omega (arith, behind))
 
-param_node : (p : Production) → is_param p ≡ true → ghosts.eq p Param ≡ true
+pub param_node : (p : Production) → is_param p ≡ true → ghosts.eq p Param ≡ true
 param_node Param h = refl
 param_node _ h = absurd (false≢true h)
 

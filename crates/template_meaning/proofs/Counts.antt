@@ -8,7 +8,7 @@ use Rattle.std.proofs.lemmas.Option.{same_Some}
 use Rattle.cs_base.specs.declared.positions.Pos.{Pos}
 use Rattle.cs_base.specs.Token.{Token, origin_at}
 use Rattle.lexer.specs.Order.{InOrder}
-use Rattle.lexer.specs.Places.{pos, origins_from}
+use Rattle.lexer.specs.Places.{pos}
 use Rattle.lexer.specs.Tokens.{tokens_of}
 use Rattle.lexer.specs.Logical.{logical_of}
 use Rattle.lexer.specs.FileText.{TextValue, LexFault, file_text}
@@ -16,9 +16,10 @@ use Rattle.source_files.specs.Files.{SourceFile, source_file, Table}
 use Rattle.source_files.specs.KeptFiles.{KeptValue, kept_at}
 use Rattle.source_files.specs.Sources.{source_at, source_kept, read_as}
 use Rattle.edited_unit_laws.proofs.FileLemmas.{token_stands}
-use Rattle.lexer.proofs.OrderLemmas.{tokens_of-in_order}
+use Rattle.lexer.proofs.OrderLemmas.{tokens_of-in_order, later_all}
+use Rattle.lexer.proofs.OriginLemmas.{first_origin as origin_first}
+use Rattle.lexer.proofs.TextLemmas.{file_text-toks as text_toks}
 use Rattle.template_rules.specs.FileLists.{begun_before}
-use Rattle.unit_laws.proofs.ReorderedFileLemmas.{text_toks}
 
 -- ---- counting
 
@@ -83,14 +84,6 @@ module _ {X : Type 0} (p : X → Bool) where
 
 -- ---- tokens of a file
 
-later_all : (from to : ℕ) (ts : List Token) → InOrder from to ts → (i : ℕ) (t : Token) → slice_get ts i ≡ Some t → from ≤ t.at.at
-later_all from to [] h i t e = absurd (cc)
-later_all from to (u ∷ ts) h zero t e = let same = same_Some u t e in let le = h.0 in subst (λ (x : Token). from ≤ x.at.at) same le
-later_all from to (u ∷ ts) h (suc i) t e =
-    let far = later_all (u.at.at + length u.text) to ts h.3 i t e in
-    let le = h.0 in
-    omega (arith, far, le)
-
 past : (x y : ℕ) → y ≤ x → nat_lt x y ≡ false
 past x y le = by (nat_lt x y) refl
   where
@@ -116,10 +109,6 @@ begun_in from to (u ∷ ts) h (suc i) t e =
     omega (arith, cons (λ (x : Token). nat_lt x.at.at t.at.at) u ts, here, rest)
 
 -- ---- kept files
-
-origin_first : (file at n : ℕ) → 1 ≤ n → slice_get (origins_from file at n) 0 ≡ Some (Some (pos file at))
-origin_first file at zero le = absurd (omega (arith, le))
-origin_first file at (suc n) le = refl
 
 some_text : (from to : ℕ) (ts : List Token) → InOrder from to ts → (i : ℕ) (t : Token) → slice_get ts i ≡ Some t → 1 ≤ length t.text
 some_text from to [] h i t e = absurd (cc)

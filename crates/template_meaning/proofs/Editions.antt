@@ -1,12 +1,13 @@
 -- Where nothing stands against a new order, no unit is of GNU C.
-use Rattle.std.proofs.Common.{◌≡◌, ℕ, List, [], ◌++◌}
+use Rattle.std.proofs.Common.{◌≡◌, ℕ, List, []}
 use Rattle.cs_base.specs.declared.causes.Cause.TheVariants as cause
 use Rattle.cs_base.specs.declared.positions.Part.{Part}
+use Rattle.cs_base.proofs.ListLemmas.{nil_behind as nil_right}
 use Rattle.source_files.specs.Files.{Source}
 use Rattle.ws_file.specs.Workspace.{WorkspaceValue}
 use Rattle.analysis.specs.Analysis.{AnalysisValue}
 use Rattle.analysis.specs.GnuUnits.{gnu_places}
-use Rattle.edited_unit_laws.proofs.ListLemmas.{nil_right, map_nil}
+use Rattle.edited_unit_laws.proofs.ListLemmas.{map_nil}
 use Rattle.offences.specs.First.{offence, standing}
 use Rattle.template_rules.specs.Insides.{all_insides, all_macro_names}
 use Rattle.template_rules.specs.Lists.{count_of}

@@ -6,6 +6,7 @@ use Rattle.std.proofs.lemmas.Bool.{false≢true, cases_Bool, and_parts, and_from
 use Rattle.std.proofs.lemmas.Option.{same_Some}
 use Rattle.c99_grammar.specs.declared.dialects.Edition.{Edition}
 use Rattle.cs_base.specs.Token.{Token}
+use Rattle.cs_base.proofs.BoolLemmas.{or_met as implied, no_case as not_so}
 use Rattle.c99_tree.specs.Tree.{Forest, none, token, node}
 use Rattle.c99_tree.specs.declared.production.Label.{Label}
 use Rattle.c99_tree.specs.declared.production.Production.{Production}
@@ -21,7 +22,6 @@ use Rattle.c99_grammar.proofs.StandardLemmas.{by_edition}
 use Rattle.c_types.specs.Trees.{last_token}
 use Rattle.tree_laws.specs.Shapes.{has_no_declaring}
 use Rattle.tree_laws.specs.TreesOfTexts.{token_count, AreFrom, IsTreeOf}
-use Rattle.tree_laws.proofs.NameClasses.{implied}
 use Rattle.tree_laws.proofs.OfTexts.{trees_of_texts}
 use Rattle.template_meaning.specs.Children.{Child, children, EachNode, IsInner, IsOfAlternative}
 use Rattle.template_meaning.specs.Children as plainly
@@ -154,10 +154,6 @@ same_paren _ e = absurd (false≢true e)
 same_hash : (d : Class) → is_same d Hash ≡ true → d ≡ Hash
 same_hash Hash e = refl
 same_hash _ e = absurd (false≢true e)
-
-not_so : (b : Bool) → (b ≡ true → ⊥) → b ≡ false
-not_so true h = absurd (h refl)
-not_so false h = refl
 
 not_both : (b : Bool) → not b ≡ true → b ≡ true → ⊥
 not_both true e h = false≢true e

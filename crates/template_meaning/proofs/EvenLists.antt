@@ -7,11 +7,13 @@ use Rattle.std.proofs.lemmas.Option.{same_Some}
 use Rattle.cs_base.specs.declared.positions.Part.{Part}
 use Rattle.cs_base.specs.declared.positions.Pos.{Pos}
 use Rattle.cs_base.specs.Token.{Token, origin_at}
+use Rattle.cs_base.proofs.ListLemmas.{get_dropped, get_taken}
 use Rattle.c_types.specs.declared.lists.List.{List as NameList}
 use Rattle.macro_body.specs.Hides.{toks_of}
 use Rattle.lexer.specs.FileText.{TextValue, LexFault, file_text}
 use Rattle.lexer.specs.Places.{pos}
 use Rattle.lexer.specs.Tokens.{tokens_of}
+use Rattle.lexer.proofs.TextLemmas.{file_text-toks as text_toks}
 use Rattle.source_files.specs.Files.{SourceFile, source_file, Source, Table}
 use Rattle.source_files.specs.KeptFiles.{KeptValue, kept_at}
 use Rattle.source_files.specs.Sources.{source_at, source_kept, read_as}
@@ -24,7 +26,7 @@ use Rattle.arranged_text_laws.specs.Lists.{is_line_among, place_of, begin_of, cl
 use Rattle.arranged_text_laws.specs.Calm.{is_odd}
 use Rattle.reordered_text_laws.specs.Marks.{first_of, last_after, last_of, spans_by, Each, AreOfList}
 use Rattle.reordered_text_laws.specs.Trees.{IsAmong}
-use Rattle.unit_laws.proofs.ReorderedFileLemmas.{text_toks}
+use Rattle.reordered_text_laws.proofs.Across.{last_is}
 use Rattle.template_rules.specs.FileLists.{begun_before, all_found, lists_in}
 use Rattle.template_rules.specs.Functions.{origin_of, names_function}
 use Rattle.template_meaning.specs.Accepted.{IsAccepted}
@@ -38,7 +40,7 @@ use Rattle.template_meaning.specs.Units.{own_lists}
 use Rattle.template_meaning.proofs.Counts.{kept_tokens_have}
 use Rattle.template_meaning.proofs.FileMarks.{first_shift, last_shift, list_shift}
 use Rattle.template_meaning.proofs.OddLines.{odd_apart}
-use Rattle.template_meaning.proofs.RunsOf.{get_taken, get_dropped, some_at, each_mark, within_limit}
+use Rattle.template_meaning.proofs.RunsOf.{some_at, each_mark, within_limit}
 use Rattle.template_meaning.proofs.Walks.{among_in}
 
 -- ---- marks
@@ -81,10 +83,6 @@ last_same f g limit limit2 (m ∷ s) (k ∷ t) w v e =
     let here : f m ≡ g k = cc in
     let rest : map f s ≡ map g t = cc in
     last_after_same f g m k s t here rest
-
-last_is : (m : ℕ) (ms : List ℕ) (k : ℕ) → last_after m (ms ++ k ∷ []) ≡ k
-last_is m [] k = refl
-last_is m (x ∷ ms) k = last_is x ms k
 
 -- the first stands before the limit
 first_within : (limit : ℕ) (ms : List ℕ) → AreOfList limit ms → first_of ms < limit

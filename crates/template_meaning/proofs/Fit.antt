@@ -3,6 +3,7 @@ use Rattle.std.proofs.Common.{◌≡◌, ℕ, zero, suc, ◌+◌, inl, inr, Bool
 use Rattle.std.specs.Prelude.{◌==◌, slice_get}
 use Rattle.std.proofs.lemmas.Bool.{cases_Bool, false≢true, and_parts, and_from, eqb-true}
 use Rattle.std.proofs.lemmas.Option.{same_Some}
+use Rattle.cs_base.proofs.BoolLemmas.{or_met as implied, or_other}
 use Rattle.c99_grammar.specs.declared.dialects.Edition.{Edition}
 use Rattle.c99_tree.specs.Tree.{Forest}
 use Rattle.c99_tree.specs.declared.production.Label.{Label}
@@ -14,17 +15,12 @@ use Rattle.c99_grammar.specs.Items.{Item, one, part, ◌·◌, many, deep, own, 
 use Rattle.c99_grammar.specs.Standard.{iso}
 use Rattle.c_types.specs.Trees.{is_node, is_at}
 use Rattle.tree_laws.specs.Shapes.{parts_all, begins, has_no_body, passes_on}
-use Rattle.tree_laws.proofs.NameClasses.{implied}
 use Rattle.reordered_tree_laws.specs.Premises.{is_items}
 use Rattle.template_meaning.specs.Children.{Child, a_token, a_node, children, AreTimes, AreOfItem, StandsFor, IsOfAlternative}
 use Rattle.template_meaning.proofs.FitTable.{is_rest, is_specifier, is_outer, is_body, is_ext_tail, is_ext_rest, is_declarator, is_declarator_child, is_type_name, is_type_child, is_membered, has_members, is_list_node, not_these, row_first, row_second, row_third, row_fits, fits_at, plainly, all_nodes, parts_nodes, plain_nodes, begins_token, table_row, operands_are}
 use Rattle.template_meaning.proofs.Forms.{alternative_is}
 
 -- ---- What the table says of a node
-
-or_other : (a b : Bool) → (a || b) ≡ true → a ≡ false → b ≡ true
-or_other true b h e = absurd (false≢true (sym e))
-or_other false b h e = h
 
 module _ (s : Edition) (l : Label) (under : Forest) (x : IsOfAlternative (iso s) l under) where
   abbrev p : Production

@@ -3,6 +3,7 @@ use Rattle.std.proofs.Common.{◌≡◌, ℕ, zero, suc, ◌+◌, ◌⊎◌, inl
 use Rattle.std.specs.Prelude.{◌==◌, slice_get}
 use Rattle.std.proofs.lemmas.Bool.{cases_Bool, false≢true, and_parts, and_from, or_cases, eqb-true, eq-eqb, lt-ltb}
 use Rattle.std.proofs.lemmas.Option.{same_Some}
+use Rattle.cs_base.proofs.BoolLemmas.{not_true as not_is, or_right as or_by}
 use Rattle.c99_grammar.specs.declared.dialects.Edition.{Edition}
 use Rattle.c99_grammar.specs.declared.dialects.Edition.TheVariants.{C99, C11}
 use Rattle.c99_tree.specs.Tree.{Forest, none, token, node, Node}
@@ -202,10 +203,6 @@ pub body_same : (q : Production) → ghosts.eq q FunBody ≡ is_body q
 body_same FunBody = refl
 body_same _ = refl
 
-or_by : (a b : Bool) → b ≡ true → (a || b) ≡ true
-or_by true b h = refl
-or_by false b h = h
-
 -- where a child is a body there is one
 body_there : (f : Forest) → all_nodes (not_these is_body) (children f) ≡ false → has_node FunBody f ≡ true
 body_there none h = absurd (false≢true (sym h))
@@ -214,10 +211,6 @@ body_there (node l first under rest) h = elim (cases_Bool (is_body l.production)
   | inl e ↦ rw (body_same l.production ∙ e) refl
   | inr e ↦ or_by (is_node l FunBody) (has_node FunBody rest) (body_there rest (sym (ap (λ b. not b && all_nodes (not_these is_body) (children rest)) e) ∙ h))
 ]
-
-not_is : (b : Bool) → not b ≡ true → b ≡ false
-not_is true h = absurd (false≢true h)
-not_is false h = refl
 
 or_from_not : (a b : Bool) → (a ≡ true → b ≡ true) → (not a || b) ≡ true
 or_from_not true b f = f refl

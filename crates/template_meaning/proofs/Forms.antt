@@ -9,6 +9,7 @@ use Rattle.c99_tree.specs.declared.production.Label.{Label}
 use Rattle.c99_tree.specs.declared.production.Production.{Production}
 use Rattle.c99_tree.specs.declared.production.Production.TheVariants.{Suffix, Params, Param, Assign, Post, Args}
 use Rattle.c99_tree.specs.contracts.production.ProductionPartialEq.TheImpl.{ghosts}
+use Rattle.c99_tree.proofs.ProductionLemmas.{post_named, suffix_named}
 use Rattle.c99_grammar.specs.declared.classes.Class.TheVariants.{LeftParen, RightParen, Comma, Ellipsis, Identifier}
 use Rattle.c99_grammar.specs.Items.{part, act, ◌·◌, maybe, many, deep, tok, own, next_two, is, is_not, scope, end, keep, name, Alternative, plain}
 use Rattle.c99_grammar.specs.Standard.{Grammar, iso}
@@ -43,14 +44,6 @@ alternative_is g l under x p k a is_p is_k at =
     let here : slice_get (g.table p) k ≡ Some x.alternative = ap (λ (q : Production). slice_get (g.table q) k) (sym is_p) ∙ ap (λ (n : ℕ). slice_get (g.table l.production) n) (sym number) ∙ x.is_one in
     let same : a ≡ x.alternative = same_Some a x.alternative (sym at ∙ here) in
     subst (λ (b : Alternative). AreOfItem b.body (children under)) (sym same) x.own
-
-post_named : (p : Production) → ghosts.eq p Post ≡ true → p ≡ Post
-post_named Post e = refl
-post_named _ e = absurd (false≢true e)
-
-suffix_named : (p : Production) → ghosts.eq p Suffix ≡ true → p ≡ Suffix
-suffix_named Suffix e = refl
-suffix_named _ e = absurd (false≢true e)
 
 pub params_named : (p : Production) → ghosts.eq p Params ≡ true → p ≡ Params
 params_named Params e = refl

@@ -3,13 +3,14 @@ use Rattle.std.proofs.Common.{◌≡◌, ℕ, zero, suc, ◌+◌, ◌-◌, ◌<�
 use Rattle.std.specs.Prelude.{◌==◌, ◌%◌, slice_get}
 use Rattle.std.specs.Option.{option_map_or}
 use Rattle.std.specs.Str.{bytes_eq}
-use Rattle.std.proofs.lemmas.Bool.{false≢true, and_parts, or_left, or_right, or_cases, eq-eqb}
+use Rattle.std.proofs.lemmas.Bool.{false≢true, and_parts, or_left, or_right, or_cases}
 use Rattle.std.proofs.lemmas.Slice.Eq.{bytes_eq-Decides}
 use Rattle.cs_base.specs.declared.positions.Part.{Part}
 use Rattle.cs_base.specs.declared.tokens.Kind.{Kind}
 use Rattle.cs_base.specs.declared.tokens.Kind.TheVariants as kind
 use Rattle.c99_grammar.specs.declared.dialects.Edition.{Edition}
 use Rattle.cs_base.specs.Token.{Token}
+use Rattle.cs_base.proofs.NumberLemmas.{odd_next}
 use Rattle.c99_tree.specs.Tree.{Forest, none, token, node}
 use Rattle.c99_tree.specs.declared.production.Label.{Label}
 use Rattle.c99_tree.specs.declared.production.Production.{Production}
@@ -26,9 +27,11 @@ use Rattle.c99_read.specs.State.{base_at}
 use Rattle.c_types.specs.declared.lists.List.{List as NameList}
 use Rattle.c_types.specs.Lists.{odd_tokens}
 use Rattle.c_types.specs.Trees.{is_node, is_at, is_list, last_token}
+use Rattle.c_types.proofs.TokenLemmas.{odd_here}
 use Rattle.tree_laws.specs.ReadTexts.{ReadParameterListsAreInOrder}
 use Rattle.tree_laws.specs.TreesOfTexts.{token_count, AreFrom}
 use Rattle.tree_laws.proofs.Lookups.{In}
+use Rattle.tree_laws.proofs.TokenEnds.{last_none}
 use Rattle.line_shape.specs.Signs.{is_punctuator, is_sign, is_hash, is_open}
 use Rattle.source_files.specs.Files.{Source}
 use Rattle.unit_laws.specs.UnitLinks.{IsIn}
@@ -59,11 +62,6 @@ some_or_none : (n : ℕ) → (n ≡ 0) ⊎ (1 ≤ n)
 some_or_none zero = inl refl
 some_or_none (suc n) = inr (omega arith)
 
-last_none : (f : Forest) (k : ℕ) → token_count f ≡ 0 → last_token f k ≡ k
-last_none none k e = refl
-last_none (token i rest) k e = absurd (omega (arith, e))
-last_none (node l first under rest) k e = last_none rest (last_token under k) (omega (arith, e)) ∙ last_none under k (omega (arith, e))
-
 last_from : (f : Forest) (lo k : ℕ) → AreFrom lo f → 1 ≤ token_count f → last_token f k + 1 ≡ lo + token_count f
 last_from none lo k w some = absurd (omega (arith, some))
 last_from (token i rest) lo k w some = elim (some_or_none (token_count rest)) [
@@ -76,12 +74,6 @@ last_from (node l first under rest) lo k w some = elim (some_or_none (token_coun
 ]
 
 -- ---- items with a token between each two
-
-odd_here : (k i : ℕ) (rest : Forest) → k % 2 ≡ 1 → odd_tokens k (token i rest) ≡ i ∷ odd_tokens (k + 1) rest
-odd_here k i rest odd = let here : (k % 2 == 1) ≡ true = eq-eqb (k % 2) 1 odd in rw here refl
-
-odd_next : (k : ℕ) → k % 2 ≡ 0 → (k + 1) % 2 ≡ 1
-odd_next k e = omega (arith, e)
 
 even_next : (k : ℕ) → k % 2 ≡ 0 → (k + 1 + 1) % 2 ≡ 0
 even_next k e = omega (arith, e)

@@ -6,6 +6,7 @@ use Rattle.std.proofs.lemmas.Bool.{false≢true, cases_Bool, and_parts, and_from
 use Rattle.std.proofs.lemmas.Option.{same_Some}
 use Rattle.c99_grammar.specs.declared.dialects.Edition.{Edition}
 use Rattle.cs_base.specs.Token.{Token}
+use Rattle.cs_base.proofs.BoolLemmas.{not_false, no_case as not_so, or_first, or_left as or_left_none, or_right_none, or_right as or_second}
 use Rattle.c99_tree.specs.Tree.{Forest, none, token, node}
 use Rattle.c99_tree.specs.declared.production.Label.{Label}
 use Rattle.c99_tree.specs.declared.production.Production.{Production}
@@ -41,33 +42,9 @@ typedef_more : (k : EntityKind) → is_typedef_name k ≡ true → is_type_or_co
 typedef_more entity.Typedef e = refl
 typedef_more _ e = absurd (false≢true e)
 
-or_first : (a b : Bool) → a ≡ true → (a || b) ≡ true
-or_first true b e = refl
-or_first false b e = absurd (false≢true e)
-
-or_second : (a b : Bool) → b ≡ true → (a || b) ≡ true
-or_second true b e = refl
-or_second false b e = e
-
-not_so : (b : Bool) → (b ≡ true → ⊥) → b ≡ false
-not_so true h = absurd (h refl)
-not_so false h = refl
-
-not_false : (b : Bool) → b ≡ false → not b ≡ true
-not_false true e = absurd (false≢true (sym e))
-not_false false e = refl
-
 or_none : (a b : Bool) → a ≡ false → b ≡ false → (a || b) ≡ false
 or_none true b e f = e
 or_none false b e f = f
-
-or_left_none : (a b : Bool) → (a || b) ≡ false → a ≡ false
-or_left_none true b e = e
-or_left_none false b e = refl
-
-or_right_none : (a b : Bool) → (a || b) ≡ false → b ≡ false
-or_right_none true b e = absurd (false≢true (sym e))
-or_right_none false b e = e
 
 -- ---- Tokens of names that declare no more
 

@@ -9,6 +9,7 @@ use Rattle.std.proofs.lemmas.Option.{same_Some}
 use Rattle.std.proofs.lemmas.Slice.Eq.{bytes_eq-Decides}
 use Rattle.c99_grammar.specs.declared.dialects.Edition.{Edition}
 use Rattle.cs_base.specs.Token.{Token}
+use Rattle.cs_base.proofs.BoolLemmas.{if_is, if_false as if_not, not_false, no_case as not_so, or_right as or_second}
 use Rattle.c99_tree.specs.Tree.{Forest, none, token, node, Node, node_of}
 use Rattle.c99_tree.specs.declared.production.Label.{Label}
 use Rattle.c99_tree.specs.declared.production.Production.{Production}
@@ -18,9 +19,11 @@ use Rattle.c_types.specs.Declarations.{spelling_at, alike}
 use Rattle.c_types.specs.Lists.{bare_at, bare_in}
 use Rattle.c_types.specs.Parameters.{declared_names}
 use Rattle.c_types.specs.Trees.{is_node, holds_name, name_below}
+use Rattle.c_types.proofs.TokenLemmas.{alike_back as alike_turned}
 use Rattle.scope_bind.specs.declared.bound.Name.{Name}
 use Rattle.tree_laws.specs.TreesOfTexts.{token_count}
-use Rattle.tree_laws.proofs.Lookups.{In, alike_turned}
+use Rattle.tree_laws.proofs.Lookups.{In}
+use Rattle.tree_laws.proofs.TokenEnds.{any_of as in_any}
 use Rattle.tree_laws.specs.Told.{DeclaresAt, DeclaresAgain, NodeTold, name_in_list, with_name, IsOther, AreOthers}
 use Rattle.tree_laws.specs.Told as told
 use Rattle.reordered_tree_laws.proofs.OnlyAdding.{name_in}
@@ -32,30 +35,10 @@ use Rattle.template_meaning.proofs.FitTable.{not_these, all_nodes}
 use Rattle.template_meaning.proofs.Forms.{is_param}
 use Rattle.template_meaning.proofs.ItemForms.{IsClean, IsPart, part_rest, part_behind}
 use Rattle.template_meaning.proofs.ItemQuiet.{IsParamShape, param_shape}
-use Rattle.template_meaning.proofs.ItemUses.{in_any, IsWithin, IsAsked, item_asks}
+use Rattle.template_meaning.proofs.ItemUses.{IsWithin, IsAsked, item_asks}
 use Rattle.template_meaning.proofs.ItemsApart.{Frees, FreeItems}
 use Rattle.template_meaning.proofs.Parens.{in_first, in_last}
 use Rattle.template_meaning.proofs.UnitLists.{any_in}
-
-not_so : (b : Bool) → (b ≡ true → ⊥) → b ≡ false
-not_so true h = absurd (h refl)
-not_so false h = refl
-
-not_false : (b : Bool) → b ≡ false → not b ≡ true
-not_false true e = absurd (false≢true (sym e))
-not_false false e = refl
-
-or_second : (a b : Bool) → b ≡ true → (a || b) ≡ true
-or_second true b e = refl
-or_second false b e = e
-
-if_is : {X : Type 0} (c : Bool) (x y : X) → c ≡ true → (if c then x else y) ≡ x
-if_is true x y e = refl
-if_is false x y e = absurd (false≢true e)
-
-if_not : {X : Type 0} (c : Bool) (x y : X) → c ≡ false → (if c then x else y) ≡ y
-if_not true x y e = absurd (false≢true (sym e))
-if_not false x y e = refl
 
 param_named : (q : Production) → is_param q ≡ true → q ≡ Param
 param_named Param e = refl

@@ -6,6 +6,7 @@ use Rattle.std.proofs.lemmas.Bool.{false≢true, and_parts, and_from, eq-eqb}
 use Rattle.std.proofs.lemmas.Option.{same_Some}
 use Rattle.c99_grammar.specs.declared.dialects.Edition.{Edition}
 use Rattle.cs_base.specs.Token.{Token}
+use Rattle.cs_base.proofs.BoolLemmas.{not_false, not_true}
 use Rattle.c99_tree.specs.Tree.{Forest, none, token, node, Node, node_of}
 use Rattle.c99_tree.specs.declared.production.Label.{Label}
 use Rattle.c99_tree.specs.declared.production.Production.{Production}
@@ -27,14 +28,6 @@ use Rattle.template_meaning.proofs.FitTable.{has_members, not_these, all_nodes}
 use Rattle.template_meaning.proofs.Forms.{node_child, no_child, stands_alone, is_param}
 use Rattle.template_meaning.proofs.ItemForms.{IsClean, IsPart, inside_of, listing_of, part_behind, part_under, part_rest, no_enumerator, untagged_rest, no_braces, clean_slip, adds}
 use Rattle.template_meaning.proofs.ItemTable.{is_params, no_params, no_lists_here}
-
-not_false : (b : Bool) → b ≡ false → not b ≡ true
-not_false true e = absurd (false≢true (sym e))
-not_false false e = refl
-
-not_true : (b : Bool) → not b ≡ true → b ≡ false
-not_true true e = absurd (false≢true e)
-not_true false e = refl
 
 no_scope : (q : Production) → has_no_declaring q ≡ true → is_scope q ≡ false
 no_scope Block e = absurd (false≢true e)

@@ -4,6 +4,7 @@ use Rattle.std.specs.Prelude.{slice_get}
 use Rattle.std.specs.List.{list_all}
 use Rattle.std.proofs.lemmas.Bool.{false≢true, and_parts}
 use Rattle.std.proofs.lemmas.Option.{same_Some}
+use Rattle.cs_base.proofs.BoolLemmas.{or_other}
 use Rattle.c99_grammar.specs.declared.dialects.Edition.{Edition}
 use Rattle.c99_tree.specs.Tree.{Forest}
 use Rattle.c99_tree.specs.declared.production.Label.{Label}
@@ -122,10 +123,6 @@ module _ (std : Edition) where
   lists_at MemberPath = refl
   lists_at AsmPart = refl
   lists_at AsmOperand = refl
-
-or_other : (a b : Bool) → (a || b) ≡ true → a ≡ false → b ≡ true
-or_other true b h e = absurd (false≢true (sym e))
-or_other false b h e = h
 
 module _ (s : Edition) (l : Label) (under : Forest) (x : IsOfAlternative (iso s) l under) where
   abbrev p : Production

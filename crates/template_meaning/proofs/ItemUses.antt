@@ -1,12 +1,13 @@
 -- The tokens of an item that ask for an ordinary identifier: each is a use of one, a bare name, or `__func__`.
-use Rattle.std.proofs.Common.{ℕ, zero, suc, ◌+◌, ◌<◌, ◌≤◌, ◌≡◌, Bool, true, false, ◌&&◌, ◌||◌, not, if◌then◌else◌, List, [], ◌∷◌, ◌++◌, Some, ◌⊎◌, inl, inr, refl, sym, ap, subst, ◌∙◌, arith}
-use Rattle.std.specs.Prelude.{slice_get, ◌==◌, ◌%◌, codes}
+use Rattle.std.proofs.Common.{ℕ, ◌+◌, ◌<◌, ◌≤◌, ◌≡◌, Bool, true, false, ◌&&◌, ◌||◌, not, if◌then◌else◌, List, [], ◌∷◌, ◌++◌, ◌⊎◌, inl, inr, refl, sym, ap, subst, ◌∙◌, arith}
+use Rattle.std.specs.Prelude.{◌==◌, ◌%◌, codes}
 use Rattle.std.specs.List.{list_any}
 use Rattle.std.specs.Str.{bytes_eq}
 use Rattle.std.proofs.lemmas.Bool.{false≢true, and_parts, and_from, eq-eqb, eqb-true, ne_eqb}
-use Rattle.std.proofs.lemmas.Option.{same_Some}
 use Rattle.c99_grammar.specs.declared.dialects.Edition.{Edition}
 use Rattle.cs_base.specs.Token.{Token}
+use Rattle.cs_base.proofs.ListLemmas.{any_at}
+use Rattle.cs_base.proofs.BoolLemmas.{or_first, or_right as or_second}
 use Rattle.c99_tree.specs.Tree.{Forest, none, token, node, node_of}
 use Rattle.c99_tree.specs.declared.production.Label.{Label}
 use Rattle.c99_tree.specs.declared.production.Production.{Production}
@@ -23,7 +24,8 @@ use Rattle.c_types.specs.Trees.{is_at}
 use Rattle.scope_bind.specs.declared.bound.Name.{Name}
 use Rattle.tree_laws.specs.TreesOfTexts.{token_count, AreFrom}
 use Rattle.tree_laws.proofs.Lookups.{In}
-use Rattle.tree_laws.specs.Told.{IsName, UsesAt, NodeTold, AreTold}
+use Rattle.tree_laws.proofs.TokenEnds.{any_of as in_any}
+use Rattle.tree_laws.specs.Told.{UsesAt, NodeTold}
 use Rattle.tree_laws.specs.Told as told
 use Rattle.reordered_tree_laws.specs.Premises.{is_item_production, used_in, asked_in}
 use Rattle.template_rules.specs.ScopeOffences.{is_function_word, is_ordinary, uses_ordinary, is_used_at, is_use}
@@ -39,32 +41,6 @@ ordinary_same entity.Tag e = absurd (false≢true e)
 ordinary_same entity.Member e = absurd (false≢true e)
 ordinary_same entity.Label e = absurd (false≢true e)
 ordinary_same _ e = refl
-
-any_at : {X : Type 0} (p : X → Bool) (xs : List X) (k : ℕ) (x : X) → slice_get xs k ≡ Some x → p x ≡ true → list_any p xs ≡ true
-any_at p [] k x e h = absurd (cc)
-any_at p (y ∷ xs) zero x e h = ap (λ c. c || list_any p xs) (ap p (same_Some y x e) ∙ h)
-any_at p (y ∷ xs) (suc k) x e h = by (p y) (any_at p xs k x e h)
-  where
-    by : (c : Bool) → list_any p xs ≡ true → (c || list_any p xs) ≡ true
-    by true e = refl
-    by false e = e
-
-pub in_any : {X : Type 0} (p : X → Bool) (xs : List X) (x : X) → In x xs → p x ≡ true → list_any p xs ≡ true
-in_any p [] x w h = absurd w
-in_any p (y ∷ xs) x (inl same) h = ap (λ c. c || list_any p xs) (ap p same ∙ h)
-in_any p (y ∷ xs) x (inr w) h = by (p y) (in_any p xs x w h)
-  where
-    by : (c : Bool) → list_any p xs ≡ true → (c || list_any p xs) ≡ true
-    by true e = refl
-    by false e = e
-
-or_first : (a b : Bool) → a ≡ true → (a || b) ≡ true
-or_first true b e = refl
-or_first false b e = absurd (false≢true e)
-
-or_second : (a b : Bool) → b ≡ true → (a || b) ≡ true
-or_second true b e = refl
-or_second false b e = e
 
 -- ---- Where tokens stand
 

@@ -7,16 +7,18 @@ use Rattle.std.proofs.lemmas.Bool.{false≢true}
 use Rattle.std.proofs.lemmas.List.{take-map, drop-map}
 use Rattle.std.proofs.lemmas.Option.{same_Some, slice_get_within}
 use Rattle.cs_base.specs.Token.{Token}
+use Rattle.cs_base.proofs.ListLemmas.{get_taken}
 use Rattle.c99_grammar.specs.declared.dialects.Edition.{Edition}
 use Rattle.c99_grammar.specs.declared.classes.Class.TheVariants.{Hash}
 use Rattle.c99_grammar.specs.Standard.{iso}
 use Rattle.line_shape.specs.Signs.{is_name, is_open, is_comma, is_close}
+use Rattle.line_shape.proofs.SignLemmas.{close-no_name, comma-no_name}
 use Rattle.macro_body.specs.Hides.{Hidden, toks_of, unhidden}
 use Rattle.macro_body.specs.Notes.{Expanded}
 use Rattle.unit_steps.specs.Below.macro_expand.Expansion.{Setting, whole}
 use Rattle.expansion_laws.specs.Arranging.{IsSign, IsMark, AreDistinct}
 use Rattle.expansion_laws.specs.Ends.{FirstPasses, LastPasses, ExpansionsEndAlike}
-use Rattle.expansion_laws.proofs.MarkLemmas.{split_at, length_at, distinct_drop, open-no_name, comma-no_name, close-no_name}
+use Rattle.expansion_laws.proofs.MarkLemmas.{split_at, length_at, distinct_drop, open-no_name}
 use Rattle.arranged_text_laws.specs.Lists.{passes, may_begin, may_end, IsItem}
 use Rattle.arranged_text_laws.proofs.SignLemmas.{names_may_begin, names_may_end, closes_may_end}
 use Rattle.reordered_text_laws.specs.Marks.{Each, StandFrom, spans_by}
@@ -27,12 +29,6 @@ use Rattle.template_meaning.proofs.ItemEnds.{EachPair, EndsItem, begins_item, en
 use Rattle.template_meaning.proofs.RunsOf.{some_at}
 
 -- ---- places in lists
-
-get_taken : {X : Type 0} (n : ℕ) (xs : List X) (i : ℕ) (x : X) → slice_get (take n xs) i ≡ Some x → slice_get xs i ≡ Some x
-get_taken zero xs i x is = absurd (cc)
-get_taken (suc n) [] i x is = absurd (cc)
-get_taken (suc n) (y ∷ xs) zero x is = is
-get_taken (suc n) (y ∷ xs) (suc i) x is = get_taken n xs i x is
 
 get_drop : {X : Type 0} (n : ℕ) (xs : List X) (i : ℕ) → slice_get (drop n xs) i ≡ slice_get xs (n + i)
 get_drop zero xs i = let same : 0 + i ≡ i = omega arith in ap (slice_get xs) (sym same)

@@ -1,14 +1,13 @@
 -- No parameter of a list asks for the name of another one, and their names differ.
-use Rattle.std.proofs.Common.{ℕ, suc, ◌+◌, ◌<◌, ◌≤◌, ◌≡◌, Bool, true, false, ◌&&◌, if◌then◌else◌, List, [], ◌∷◌, ◌++◌, length, Option, refl, sym, ap, subst, arith, append_assoc}
+use Rattle.std.proofs.Common.{ℕ, suc, ◌+◌, ◌<◌, ◌≤◌, ◌≡◌, true, false, ◌&&◌, if◌then◌else◌, List, [], ◌∷◌, ◌++◌, length, Option, refl, sym, ap, subst, arith, append_assoc}
 use Rattle.std.specs.Prelude.{slice_index_or, ◌==◌, ◌%◌}
 use Rattle.std.specs.List.{list_any, remove}
 use Rattle.std.proofs.lemmas.Bool.{false≢true, and_parts, eq-eqb}
 use Rattle.cs_base.specs.Token.{Token}
+use Rattle.cs_base.proofs.BoolLemmas.{if_is}
 use Rattle.c99_tree.specs.Tree.{Forest, none, token, node}
 use Rattle.c99_tree.specs.declared.production.Label.{Label}
-use Rattle.c99_tree.specs.declared.production.Production.{Production}
 use Rattle.c99_tree.specs.declared.production.Production.TheVariants.{Param}
-use Rattle.c99_tree.specs.contracts.production.ProductionPartialEq.TheImpl.{ghosts}
 use Rattle.c_types.specs.Lists.{odd_tokens}
 use Rattle.c_types.specs.Parameters.{declared_names}
 use Rattle.c_types.specs.Trees.{is_node, name_below}
@@ -18,14 +17,7 @@ use Rattle.template_rules.specs.ScopeOffences.{is_spelled_as, is_use}
 use Rattle.template_meaning.specs.Children.{children}
 use Rattle.template_meaning.proofs.Forms.{are_items, are_more, is_end, is_param}
 use Rattle.template_meaning.proofs.ItemUses.{IsWithin}
-
-if_is : {X : Type 0} (c : Bool) (x y : X) → c ≡ true → (if c then x else y) ≡ x
-if_is true x y e = refl
-if_is false x y e = absurd (false≢true e)
-
-param_node : (q : Production) → is_param q ≡ true → ghosts.eq q Param ≡ true
-param_node Param e = refl
-param_node _ e = absurd (false≢true e)
+use Rattle.template_meaning.proofs.Counted.{param_node}
 
 -- ---- The tokens of an item, between its separators
 

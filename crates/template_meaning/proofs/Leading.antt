@@ -4,6 +4,7 @@ use Rattle.std.specs.Prelude.{slice_get}
 use Rattle.std.specs.List.{list_all}
 use Rattle.std.proofs.lemmas.Bool.{false≢true, and_parts}
 use Rattle.std.proofs.lemmas.Option.{same_Some}
+use Rattle.cs_base.proofs.BoolLemmas.{or_met as implied}
 use Rattle.c99_grammar.specs.declared.dialects.Edition.{Edition}
 use Rattle.c99_tree.specs.Tree.{Forest, none, token, node}
 use Rattle.c99_tree.specs.declared.production.Label.{Label}
@@ -17,7 +18,6 @@ use Rattle.c99_grammar.proofs.StandardLemmas.{by_edition}
 use Rattle.c99_read.proofs.C99Sound.{iso-sound}
 use Rattle.tree_laws.specs.TreesOfTexts.{token_count, AreFrom}
 use Rattle.tree_laws.proofs.Lookups.{In}
-use Rattle.tree_laws.proofs.NameClasses.{implied}
 use Rattle.reordered_tree_laws.specs.Reordered.{is_parenthesised}
 use Rattle.template_meaning.specs.Children.{Child, a_token, a_node, children, StandsFor, AreTimes, AreOfItem, EachNode, IsOfAlternative}
 use Rattle.template_meaning.proofs.Counted.{item_some, sound_at}

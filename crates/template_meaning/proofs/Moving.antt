@@ -3,6 +3,7 @@ use Rattle.std.proofs.Common.{ℕ, ◌≡◌, inl, List, [], ◌∷◌, map, Som
 use Rattle.cs_base.specs.Token.{Token}
 use Rattle.lexer.specs.FileText.{file_text}
 use Rattle.lexer.specs.Tokens.{tokens_of, firsts_of}
+use Rattle.lexer.proofs.TextLemmas.{file_text-toks as text_toks}
 use Rattle.source_files.specs.Files.{SourceFile}
 use Rattle.source_files.specs.Sources.{source_at}
 use Rattle.unit_laws.specs.UnitLinks.{IsIn}
@@ -14,7 +15,6 @@ use Rattle.arranged_text_laws.specs.FileItems.{placed}
 use Rattle.reordered_text_laws.specs.Marks.{spans_by}
 use Rattle.reordered_text_laws.specs.Trees.{IsAmong}
 use Rattle.edited_unit_laws.specs.TokenRuns.{WorkspaceTokensAreOfRuns}
-use Rattle.unit_laws.proofs.ReorderedFileLemmas.{text_toks}
 use Rattle.template_rules.specs.FileLists.{begun_before, all_found, lists_in}
 use Rattle.template_meaning.specs.Again.{ListsStandInEach}
 use Rattle.template_meaning.specs.Prototypes.{DeclaratorsHavePrototypes}

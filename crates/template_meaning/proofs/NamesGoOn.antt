@@ -2,7 +2,7 @@
 -- each token has its class at its new place.
 use Rattle.std.proofs.Common.{ℕ, zero, suc, ◌+◌, ◌≡◌, Bool, true, inl, inr, List, [], ◌∷◌, ◌++◌, length, get_or, Ok, refl, ap, ◌∙◌, arith}
 use Rattle.std.specs.Prelude.{◌==◌, nat_lt}
-use Rattle.std.proofs.lemmas.Bool.{cases_Bool, false≢true, and_parts, and_from, eqb-true, ltb-true, ltb-false, lt-ltb}
+use Rattle.std.proofs.lemmas.Bool.{cases_Bool, and_parts, and_from, eqb-true, ltb-true, ltb-false, lt-ltb}
 use Rattle.std.proofs.lemmas.List.{get_or_default, get_or_past}
 use Rattle.c99_grammar.specs.declared.dialects.Edition.{Edition}
 use Rattle.cs_base.specs.Token.{Token}
@@ -10,7 +10,7 @@ use Rattle.c99_tree.specs.Tree.{Forest, none, token, node, Node}
 use Rattle.c99_tree.specs.declared.production.Label.{Label}
 use Rattle.c99_tree.specs.declared.production.Production.{Production}
 use Rattle.c99_tree.specs.declared.production.Production.TheVariants.{Pdirect, Pdecl, Suffix}
-use Rattle.c99_tree.specs.contracts.production.ProductionPartialEq.TheImpl.{ghosts}
+use Rattle.c99_tree.proofs.ProductionLemmas.{direct_is as pdirect_named}
 use Rattle.c99_grammar.specs.declared.classes.Class.TheVariants.{LeftParen, RightParen, LeftBracket, Star, Identifier}
 use Rattle.c99_grammar.specs.Items.{part, ◌·◌, many, deep, tok, own, next_two, is, when}
 use Rattle.c99_grammar.specs.Standard.{iso}
@@ -33,10 +33,6 @@ use Rattle.template_meaning.proofs.Children.{each_below}
 use Rattle.template_meaning.proofs.Forms.{token_child, node_child, alternative_is}
 
 -- ---- Declarators in parentheses
-
-pdirect_named : (p : Production) → ghosts.eq p Pdirect ≡ true → p ≡ Pdirect
-pdirect_named Pdirect e = refl
-pdirect_named _ e = absurd (false≢true e)
 
 -- a token, a node, and a token
 opened_by : (under : Forest) (q : Production) (w : List Child) → children under ≡ a_token ∷ (a_node q ∷ (a_token ∷ w)) → is_opened under ≡ true

@@ -8,6 +8,7 @@ use Rattle.cs_base.specs.declared.positions.Pos.{Pos}
 use Rattle.cs_base.specs.declared.tokens.Kind.{Kind}
 use Rattle.cs_base.specs.declared.tokens.Kind.TheVariants.{Ident, Number, Char, Str, Punct, Other, Header}
 use Rattle.cs_base.specs.Token.{Token}
+use Rattle.cs_base.proofs.BoolLemmas.{and_right as left_true}
 use Rattle.c_types.specs.declared.lists.List.{List as NameList}
 use Rattle.lexer.specs.Tokens.{tokens_of}
 use Rattle.source_files.specs.Files.{Table}
@@ -87,10 +88,6 @@ both_false : (x y z : Bool) → x ≡ true → y ≡ false → ((x && not y) && 
 both_false true false z e f h = h
 both_false true true z e f h = absurd (false≢true (sym f))
 both_false false y z e f h = absurd (false≢true e)
-
-left_true : (x y : Bool) → x ≡ true → (x && y) ≡ false → y ≡ false
-left_true true y e h = h
-left_true false y e h = absurd (false≢true e)
 
 -- No token of a kept file that is of no other kind stands in a line from the `(` of a list to its `)`, where these come from there,
 -- the list is direct and in one run, and no such token is said to stand in its lines.

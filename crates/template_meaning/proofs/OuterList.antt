@@ -3,6 +3,7 @@ use Rattle.std.proofs.Common.{ℕ, ◌≡◌, Bool, true, false, ◌&&◌, ◌||
 use Rattle.std.specs.Option.{option_map_or, option_or}
 use Rattle.std.proofs.lemmas.Bool.{false≢true, and_parts}
 use Rattle.std.proofs.lemmas.Option.{same_Some}
+use Rattle.cs_base.proofs.BoolLemmas.{not_true}
 use Rattle.c99_grammar.specs.declared.dialects.Edition.{Edition}
 use Rattle.c99_tree.specs.Tree.{Forest, none, token, node}
 use Rattle.c99_tree.specs.declared.production.Label.{Label}
@@ -82,10 +83,6 @@ top_upper TranslationUnit e = e
 top_upper External e = e
 top_upper ExtRest e = refl
 top_upper _ e = refl
-
-not_true : (b : Bool) → not b ≡ true → b ≡ false
-not_true true e = absurd (false≢true e)
-not_true false e = refl
 
 in_option : (k : ℕ) (o : Option ℕ) → o ≡ Some k → In k (option_map_or (λ j. j ∷ []) o [])
 in_option k None e = absurd (cc)

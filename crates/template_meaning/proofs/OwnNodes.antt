@@ -10,6 +10,7 @@ use Rattle.c99_tree.specs.declared.production.Label.{Label}
 use Rattle.c99_tree.specs.declared.production.Production.{Production}
 use Rattle.c99_tree.specs.declared.production.Production.TheVariants.{Post, Suffix, Args, Params, Param, Assign, Declarator, Unary, Primary}
 use Rattle.c99_tree.specs.contracts.production.ProductionPartialEq.TheImpl.{ghosts}
+use Rattle.c99_tree.proofs.ProductionLemmas.{declarator_named, post_named, suffix_named}
 use Rattle.c99_grammar.specs.Items.{Item, part, act, ◌·◌, maybe, many, own, deep, scope, end, keep, tok, plain, Alternative, next_two, is, is_not}
 use Rattle.c99_grammar.specs.declared.classes.Class.TheVariants.{LeftParen, RightParen, Comma, Ellipsis}
 use Rattle.c99_grammar.specs.Standard.{Grammar, iso}
@@ -73,10 +74,6 @@ call_before (node m first under rest) k l w each there = elim (in_split l ((if i
   | inr v ↦ call_before rest (k + token_count under) l w.2 each.2 v
 ]
 
-declarator_named : (p : Production) → ghosts.eq p Declarator ≡ true → p ≡ Declarator
-declarator_named Declarator e = refl
-declarator_named _ e = absurd (false≢true e)
-
 own_names : (o : Option ℕ) (n : Option (Option Forest)) (p : Pair) → In p (own_pair o n) → (o ≡ Some p.name) × (n ≡ Some (Some p.under))
 own_names None n p w = absurd w
 own_names (Some name) None p w = absurd w
@@ -119,14 +116,6 @@ alternative_of g toks l under x p k a is_p is_k at =
 pub record Ends (g : Grammar) (toks : List Token) (under : Forest) : Type 0 where
   pub open_ : base_at g toks (first_token under 0) ≡ LeftParen
   pub close : base_at g toks (last_token under 0) ≡ RightParen
-
-post_named : (p : Production) → ghosts.eq p Post ≡ true → p ≡ Post
-post_named Post e = refl
-post_named _ e = absurd (false≢true e)
-
-suffix_named : (p : Production) → ghosts.eq p Suffix ≡ true → p ≡ Suffix
-suffix_named Suffix e = refl
-suffix_named _ e = absurd (false≢true e)
 
 ends_of : (g : Grammar) (toks : List Token) (under : Forest) (i j : ℕ) (w : List classes.Child) → classes.children under ≡ classes.a_token i ∷ (w ++ classes.a_token j ∷ []) → HasClass g toks (LeftParen ∷ []) i
     → HasClass g toks (RightParen ∷ []) j → Ends g toks under

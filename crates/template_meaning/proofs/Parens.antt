@@ -1,9 +1,10 @@
 -- Lists in parentheses, each by the token that begins it: no two of a tree begin with one.
-use Rattle.std.proofs.Common.{ℕ, ◌+◌, ◌<◌, ◌≤◌, ◌≡◌, ◌⊎◌, inl, inr, Bool, true, false, ◌&&◌, ◌||◌, if◌then◌else◌, List, [], ◌∷◌, ◌++◌, map, Option, None, Some, refl, sym, ap, subst, ◌∙◌, arith}
+use Rattle.std.proofs.Common.{ℕ, ◌+◌, ◌<◌, ◌≤◌, ◌≡◌, ◌⊎◌, inl, inr, Bool, true, false, ◌&&◌, if◌then◌else◌, List, [], ◌∷◌, ◌++◌, map, Option, None, Some, refl, sym, ap, subst, ◌∙◌, arith}
 use Rattle.std.specs.Option.{option_or}
 use Rattle.std.proofs.lemmas.Bool.{false≢true, and_parts}
 use Rattle.std.proofs.lemmas.List.{map-append}
 use Rattle.std.proofs.lemmas.Option.{same_Some}
+use Rattle.cs_base.proofs.BoolLemmas.{or_first as or_left_is, or_right as or_right_is}
 use Rattle.c99_tree.specs.Tree.{Forest, none, token, node}
 use Rattle.c99_tree.specs.declared.production.Label.{Label}
 use Rattle.c99_tree.specs.declared.production.Production.TheVariants.{Declarator, Suffix, Pointer, Unary, Primary, Post}
@@ -169,14 +170,6 @@ one_entry (node l first under rest) k w each x y v u same =
     ]
 
 -- ---- Calls
-
-or_left_is : (a b : Bool) → a ≡ true → (a || b) ≡ true
-or_left_is true b e = refl
-or_left_is false b e = absurd (false≢true e)
-
-or_right_is : (a b : Bool) → b ≡ true → (a || b) ≡ true
-or_right_is true b e = refl
-or_right_is false b e = e
 
 -- a list in parentheses with a label that passes, and these children
 pub record IsEntry (test : Label → Bool) (f : Forest) (under : Forest) : Type 0 where

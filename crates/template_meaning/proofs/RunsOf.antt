@@ -1,5 +1,5 @@
 -- The lists of the functions in a run that a unit reached, and those of the run itself: the same marks.
-use Rattle.std.proofs.Common.{◌≡◌, ℕ, zero, suc, ◌+◌, ◌-◌, ◌<◌, ◌≤◌, ◌⊎◌, inl, inr, Bool, true, false, List, [], ◌∷◌, ◌++◌, length, take, drop, map, Option, None, Some, Ok, refl, sym, ap, subst, ◌∙◌, arith}
+use Rattle.std.proofs.Common.{◌≡◌, ℕ, zero, suc, ◌+◌, ◌-◌, ◌<◌, ◌≤◌, ◌⊎◌, inl, inr, Bool, true, false, List, [], ◌∷◌, ◌++◌, length, drop, map, Option, None, Some, Ok, refl, sym, ap, subst, ◌∙◌, arith}
 use Rattle.std.specs.Prelude.{◌==◌, slice_get, slice_range, nat_le, nat_lt}
 use Rattle.std.specs.List.{flat_map, list_any}
 use Rattle.std.specs.Option.{option_map_or, option_and_then}
@@ -8,6 +8,7 @@ use Rattle.std.proofs.lemmas.Option.{same_Some, slice_get_within}
 use Rattle.cs_base.specs.declared.positions.Part.{Part}
 use Rattle.cs_base.specs.declared.positions.Pos.{Pos}
 use Rattle.cs_base.specs.Token.{Token, origin_at}
+use Rattle.cs_base.proofs.ListLemmas.{get_dropped, get_taken}
 use Rattle.c_types.specs.declared.lists.List.{List as NameList}
 use Rattle.line_shape.specs.declared.items.Item.{Item}
 use Rattle.line_shape.specs.declared.items.ItemKind.TheVariants.{Run}
@@ -132,17 +133,6 @@ pub chars_are : (file : ℕ) (toks : List Token) (ms : List ℕ) → Each (λ k.
 chars_are file toks [] h = refl
 chars_are file toks (m ∷ ms) h =
     ap (λ (l : List ℕ). l ++ flat_map (characters_of file toks) ms) (chars_one file toks m h.0) ∙ ap (λ (l : List ℕ). char_of (slice_get toks m) ∷ l) (chars_are file toks ms h.1)
-
-pub get_taken : {X : Type 0} (n : ℕ) (xs : List X) (i : ℕ) (x : X) → slice_get (take n xs) i ≡ Some x → slice_get xs i ≡ Some x
-get_taken zero xs i x is = absurd (cc)
-get_taken (suc n) [] i x is = absurd (cc)
-get_taken (suc n) (y ∷ xs) zero x is = is
-get_taken (suc n) (y ∷ xs) (suc i) x is = get_taken n xs i x is
-
-pub get_dropped : {X : Type 0} (n : ℕ) (xs : List X) (i : ℕ) (x : X) → slice_get (drop n xs) i ≡ Some x → slice_get xs (n + i) ≡ Some x
-get_dropped zero xs i x is = let same : 0 + i ≡ i = omega arith in rw same is
-get_dropped (suc n) [] i x is = absurd (cc)
-get_dropped (suc n) (y ∷ xs) i x is = let same : suc n + i ≡ suc (n + i) = omega arith in rw same (get_dropped n xs i x is)
 
 pub some_at : {X : Type 0} (xs : List X) (k : ℕ) → k < length xs → (x : X) × (slice_get xs k ≡ Some x)
 some_at [] k lt = absurd (omega (arith, lt))

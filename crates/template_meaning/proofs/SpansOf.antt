@@ -1,5 +1,5 @@
 -- The lists of a file may move: what their marks give of this.
-use Rattle.std.proofs.Common.{◌≡◌, ℕ, zero, suc, ◌+◌, ◌-◌, ◌<◌, ◌≤◌, inl, inr, Bool, true, false, cond, List, [], ◌∷◌, length, take, drop, map, Option, None, Some, Result, Ok, Err, refl, sym, ap, subst, ◌∙◌, arith}
+use Rattle.std.proofs.Common.{◌≡◌, ℕ, zero, suc, ◌+◌, ◌-◌, ◌<◌, ◌≤◌, inl, inr, Bool, true, false, cond, List, [], ◌∷◌, length, drop, map, Option, None, Some, Result, Ok, Err, refl, sym, ap, subst, ◌∙◌, arith}
 use Rattle.std.specs.Prelude.{slice_get, nat_lt, nat_le}
 use Rattle.std.specs.Option.{option_map_or, option_and_then}
 use Rattle.std.proofs.lemmas.Bool.{lt-leb, le-leb, ltb-true, ltb-false}
@@ -8,6 +8,7 @@ use Rattle.std.proofs.lemmas.Option.{same_Some, slice_get_within}
 use Rattle.cs_base.specs.declared.positions.Part.{Part}
 use Rattle.cs_base.specs.Token.{Token}
 use Rattle.cs_base.specs.Limits.{most_bytes}
+use Rattle.cs_base.proofs.ListLemmas.{get_dropped, get_taken}
 use Rattle.line_shape.specs.Signs.{is_open, is_close, is_comma}
 use Rattle.macro_body.specs.Hides.{toks_of}
 use Rattle.lexer.specs.FileText.{TextValue, LexFault, FileTooLarge, text_value, text_or_open, file_text}
@@ -19,7 +20,8 @@ use Rattle.source_files.specs.KeptFiles.{KeptValue, kept_at}
 use Rattle.source_files.specs.Sources.{source_at, source_kept, read_as}
 use Rattle.unit_laws.specs.UnitLinks.{IsIn}
 use Rattle.analysis.specs.Analysis.{UnitAnalysis, AnalysisValue}
-use Rattle.lexer.proofs.OrderLemmas.{tokens_of-in_order}
+use Rattle.lexer.proofs.OrderLemmas.{tokens_of-in_order, before_of as order_of}
+use Rattle.lexer.proofs.TextLemmas.{file_text-toks as text_toks}
 use Rattle.arranged_text_laws.specs.Lists.{passes, IsItem, AreItems, begin_of, close_of, ListMoves, EachMoves, Rise, ListsMayMove, place_of, is_line_among}
 use Rattle.arranged_text_laws.specs.Moving.{item_bytes, byte_lists, AreLong}
 use Rattle.arranged_text_laws.specs.RunTokens.{IsTextList}
@@ -35,7 +37,6 @@ use Rattle.reordered_text_laws.proofs.MarkLemmas.{cut_lists, cut_nested}
 use Rattle.reordered_text_laws.specs.Runs.{Closes, AreSigned}
 use Rattle.reordered_text_laws.specs.Trees.{IsAmong}
 use Rattle.reordered_text_laws.proofs.PartMarks.{later_by, Rises, rises_of, each_among}
-use Rattle.unit_laws.proofs.ReorderedFileLemmas.{text_toks}
 use Rattle.template_rules.specs.FileLists.{begun_by, begun_before, first_byte, end_byte, item_between, items_of, all_found, lists_in}
 use Rattle.template_rules.specs.Lists.{separators}
 use Rattle.template_meaning.specs.Spans.{SpansMove}
@@ -107,17 +108,6 @@ items_close : (toks : List Token) (m k : ℕ) (ms : List ℕ) → Closes toks (k
 items_close toks m k [] h each = (each.0, sign_passes is_close toks k h)
 items_close toks m k (j ∷ ms) h each = (each.0, sign_passes is_comma toks k h.0, refl, items_close toks k j ms h.1 each.1)
 
-get_taken : {X : Type 0} (n : ℕ) (xs : List X) (i : ℕ) (x : X) → slice_get (take n xs) i ≡ Some x → slice_get xs i ≡ Some x
-get_taken zero xs i x is = absurd (cc)
-get_taken (suc n) [] i x is = absurd (cc)
-get_taken (suc n) (y ∷ xs) zero x is = is
-get_taken (suc n) (y ∷ xs) (suc i) x is = get_taken n xs i x is
-
-get_dropped : {X : Type 0} (n : ℕ) (xs : List X) (i : ℕ) (x : X) → slice_get (drop n xs) i ≡ Some x → slice_get xs (n + i) ≡ Some x
-get_dropped zero xs i x is = let same : 0 + i ≡ i = omega arith in rw same is
-get_dropped (suc n) [] i x is = absurd (cc)
-get_dropped (suc n) (y ∷ xs) i x is = let same : suc n + i ≡ suc (n + i) = omega arith in rw same (get_dropped n xs i x is)
-
 -- ---- a list
 
 module _ (a : AnalysisValue) (members : List Part) (file : SourceFile) (t : List ℕ) (x : ListInFile a members file t) where
@@ -166,24 +156,6 @@ module _ (a : AnalysisValue) (members : List Part) (file : SourceFile) (t : List
           }
 
 -- ---- the bytes of items
-
-later_all : (from to : ℕ) (ts : List Token) → InOrder from to ts → (i : ℕ) (t : Token) → slice_get ts i ≡ Some t → from ≤ t.at.at
-later_all from to [] h i t e = absurd (cc)
-later_all from to (u ∷ ts) h zero t e = let same = same_Some u t e in let le = h.0 in subst (λ (x : Token). from ≤ x.at.at) same le
-later_all from to (u ∷ ts) h (suc i) t e =
-    let far = later_all (u.at.at + length u.text) to ts h.3 i t e in
-    let le = h.0 in
-    omega (arith, far, le)
-
-order_of : (from to : ℕ) (ts : List Token) → InOrder from to ts → (i j : ℕ) (t u : Token) → i < j → slice_get ts i ≡ Some t → slice_get ts j ≡ Some u → t.at.at < u.at.at
-order_of from to [] h i j t u lt e g = absurd (cc)
-order_of from to (y ∷ ts) h i zero t u lt e g = absurd (omega (arith, lt))
-order_of from to (y ∷ ts) h zero (suc j) t u lt e g =
-    let far = later_all (y.at.at + length y.text) to ts h.3 j u g in
-    let some = h.1 in
-    let same = ap (λ (x : Token). x.at.at) (same_Some y t e) in
-    omega (arith, far, some, same)
-order_of from to (y ∷ ts) h (suc i) (suc j) t u lt e g = order_of (y.at.at + length y.text) to ts h.3 i j t u (omega (arith, lt)) e g
 
 -- one token begins where a token begins
 begun_one : (number : ℕ) (bytes : List ℕ) (i : ℕ) (t : Token) → slice_get (tokens_of number bytes) i ≡ Some t → begun_by (tokens_of number bytes) t.at.at ≡ i + 1

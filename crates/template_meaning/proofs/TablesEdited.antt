@@ -1,5 +1,5 @@
 -- The files behind a new order, told by paths, and by their numbers in a table.
-use Rattle.std.proofs.Common.{◌≡◌, ℕ, zero, suc, ◌+◌, true, false, not, List, [], ◌∷◌, Option, None, Some, refl, sym, ap, ◌∙◌, inl, inr, arith}
+use Rattle.std.proofs.Common.{◌≡◌, ℕ, zero, suc, ◌+◌, true, not, List, [], ◌∷◌, Option, None, Some, refl, sym, ap, ◌∙◌, inl, inr, arith}
 use Rattle.std.specs.Prelude.{slice_get}
 use Rattle.std.specs.List.{list_any}
 use Rattle.std.specs.Option.{option_map, option_and_then}
@@ -8,13 +8,14 @@ use Rattle.std.proofs.lemmas.Bool.{cases_Bool, and_parts, false≢true}
 use Rattle.std.proofs.lemmas.Option.{none-some, same_Some}
 use Rattle.cs_base.specs.declared.positions.Part.{Part}
 use Rattle.cs_base.proofs.FileMapLemmas.{bytes_eq-equal, bytes_eq-same}
+use Rattle.cs_base.proofs.ListLemmas.{any_at}
 use Rattle.source_files.specs.Files.{Source, Found, Lines, Absent, Unopened, Opened, Made, Entry, entry, Table, number_of}
 use Rattle.source_files.specs.KeptFiles.{KeptValue, kept_at, kept_in, kept_bytes}
 use Rattle.source_files.specs.Tables.{HasEachOnce, paths_in}
+use Rattle.source_files.proofs.KeptLemmas.{behind_other, path_in}
 use Rattle.analysis.specs.Analysis.{AnalysisValue}
 use Rattle.analysis.specs.Changed.{Editing, edited_from, edited_table}
 use Rattle.analysis.specs.Changed as numbered
-use Rattle.edited_unit_laws.proofs.ListLemmas.{any_at}
 use Rattle.list_cuts.specs.Spans.{all_rearranged}
 use Rattle.unit_laws.specs.Edited.{Edit, edited_found, edited_entry, edited_files, edited_source}
 use Rattle.template_rules.specs.FileLists.{all_found, lists_in}
@@ -26,15 +27,6 @@ use Rattle.reordered.specs.Reordered.{reordered_bytes}
 
 once_behind : (e : Entry) (t : Table) → HasEachOnce (e ∷ t) → HasEachOnce t
 once_behind e t once = (and_parts (not (list_any (bytes_eq e.path) (paths_in t))) _ once).1
-
-path_in : (t : Table) (k : ℕ) (e : Entry) → slice_get t k ≡ Some e → slice_get (paths_in t) k ≡ Some e.path
-path_in [] k e at = absurd (none-some e at)
-path_in (x ∷ t) zero e at = ap (λ (y : Entry). Some y.path) (same_Some x e at)
-path_in (x ∷ t) (suc k) e at = path_in t k e at
-
--- the number behind an entry of another path
-behind_other : (path : List ℕ) (x : Entry) (t : Table) → bytes_eq path x.path ≡ false → number_of path (x ∷ t) ≡ 1 + number_of path t
-behind_other path x t other = rw other refl
 
 -- a path has the number of its entry
 pub number_path : (t : Table) (k : ℕ) (e : Entry) → HasEachOnce t → slice_get t k ≡ Some e → number_of e.path t ≡ k

@@ -12,13 +12,13 @@ use Rattle.c99_read.specs.Reading.{read_of}
 use Rattle.scope_bind.specs.Bound.{Bound}
 use Rattle.analysis.specs.Below.gnu_bind.Bound.{binding_by}
 use Rattle.cs_base.specs.Units.{is_gnu}
+use Rattle.cs_base.proofs.OptionLemmas.{ok_same}
 use Rattle.tree_laws.specs.ReadTexts.{ReadNamesStandInTheText, ReadParameterListsAreInOrder}
 use Rattle.source_files.specs.Files.{Source}
 use Rattle.source_files.specs.Tables.{HasEachOnce}
 use Rattle.ws_file.specs.Workspace.{WorkspaceValue, IsWorkspace}
 use Rattle.analysis.specs.Analysis.{UnitAnalysis, AnalysisValue, analysis_of}
 use Rattle.analysis.specs.GnuUnits.{gnu_places}
-use Rattle.edited_unit_laws.proofs.AnalysedUnitLemmas.{ok_same}
 use Rattle.list_cuts.specs.Cuts.{Cut, arranged}
 use Rattle.list_cuts.proofs.CutLemmas.{arranged-map}
 use Rattle.reordered_tree_laws.specs.Reordered.{reordered}

@@ -12,6 +12,7 @@ use Rattle.c99_tree.specs.declared.production.Label.{Label}
 use Rattle.c99_tree.specs.declared.production.Production.{Production}
 use Rattle.c99_tree.specs.declared.production.Production.TheVariants.{FunBody, Declaration, Declarator, Suffix, Post, Args, Params}
 use Rattle.c99_tree.specs.contracts.production.ProductionPartialEq.TheImpl.{ghosts}
+use Rattle.c99_tree.proofs.ProductionLemmas.{declarator_named}
 use Rattle.c99_grammar.specs.Standard.{iso}
 use Rattle.c_types.specs.declared.lists.List.{List as NameList}
 use Rattle.c_types.specs.declared.parameters.ParameterList.{ParameterList}
@@ -58,10 +59,6 @@ own_declares names (Some i) (Some (Some list)) p (inr w) d = absurd w
 in_lists : {X : Type 0} (c : Bool) (x : X) (ys : List X) → In x (if c then ys else []) → (c ≡ true) × In x ys
 in_lists true x ys w = (refl, w)
 in_lists false x ys w = absurd w
-
-declarator_named : (q : Production) → ghosts.eq q Declarator ≡ true → q ≡ Declarator
-declarator_named Declarator e = refl
-declarator_named _ e = absurd (false≢true e)
 
 module _ (names : List Name) (toks_ : List Token) where
   first_declares : (body listing : Bool) (l : Label) (f : Forest) (p : Pair) → is_declaring l ≡ true → AreTold names toks_ body listing l f → In p (pair_in f) → DeclaresAt names is_ordinary p.name

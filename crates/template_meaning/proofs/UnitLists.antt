@@ -14,9 +14,10 @@ use Rattle.c99_grammar.specs.Standard.{iso}
 use Rattle.c_types.specs.declared.lists.List.{List as NameList}
 use Rattle.c_types.specs.declared.parameters.ParameterList.{ParameterList}
 use Rattle.c_types.specs.Lists.{list_of, lists_in}
-use Rattle.c_types.specs.Parameters.{typed, untyped, parameters_of, parameters_in}
+use Rattle.c_types.specs.Parameters.{parameters_of, parameters_in}
 use Rattle.c_types.specs.Trees.{is_at, is_list, first_token}
 use Rattle.c_types.specs.Declarations.{Facts}
+use Rattle.c_types.proofs.ParameterLemmas.{of-name as parameters_named}
 use Rattle.scope_bind.specs.Bound.{Bound, is_of_function, names_of, bound_of, facts_of, binding_of}
 use Rattle.tree_laws.specs.ReadTexts.{Reads, ReadParameterListsAreInOrder}
 use Rattle.tree_laws.specs.TreesOfTexts.{AreFrom, IsTreeOf}
@@ -125,15 +126,6 @@ pub each_map : (P Q : Label → Forest → Type 0) (f : Forest) → ((l : Label)
 each_map P Q none g each = tt
 each_map P Q (token i rest) g each = each_map P Q rest g each
 each_map P Q (node l first under rest) g each = (g l under each.0, each_map P Q under g each.1, each_map P Q rest g each.2)
-
-parameters_named : (name : ℕ) (f : Forest) → (parameters_of name f).name ≡ name
-parameters_named name none = refl
-parameters_named name (token i rest) = parameters_named name rest
-parameters_named name (node l first under rest) = by (is_at l Params 1)
-  where
-    by : (b : Bool) → (if b then untyped name under else typed name under).name ≡ name
-    by true = refl
-    by false = refl
 
 pair_begins : (p : _) (under : Forest) → IsPair p under → begins under ≡ true
 pair_begins p under (inl q) = ap begins q.is

@@ -28,6 +28,7 @@ use Rattle.tree_laws.specs.ReadTexts.{ReadParameterListsAreInOrder}
 use Rattle.tree_laws.specs.TreesOfTexts.{token_count, AreFrom, IsTreeOf}
 use Rattle.tree_laws.proofs.Lookups.{In}
 use Rattle.tree_laws.proofs.OfTexts.{trees_of_texts}
+use Rattle.tree_laws.proofs.TokenEnds.{any_of}
 use Rattle.source_files.specs.Files.{Source}
 use Rattle.unit_laws.specs.UnitLinks.{IsIn}
 use Rattle.unit_steps.specs.declared.events.Event.{Event}
@@ -37,7 +38,7 @@ use Rattle.unit_steps.specs.declared.events.Reached.{Reached}
 use Rattle.ws_file.specs.Workspace.{WorkspaceValue}
 use Rattle.analysis.specs.Analysis.{UnitAnalysis, AnalysisValue}
 use Rattle.expansion_laws.specs.Arranging.{in_lists}
-use Rattle.reordered_text_laws.specs.Marks.{marks_of, IsMarked, HasMarks, Each, first_of, last_after, last_of}
+use Rattle.reordered_text_laws.specs.Marks.{marks_of, IsMarked, HasMarks, Each, first_of, last_of}
 use Rattle.reordered_text_laws.proofs.TidyLemmas.{cuts_are_tidied}
 use Rattle.reordered_text_laws.specs.Classes.{IsOfClasses}
 use Rattle.reordered_text_laws.specs.Runs.{Closes, AreSigned}
@@ -46,9 +47,10 @@ use Rattle.reordered_text_laws.specs.Trees as marked
 use Rattle.reordered_text_laws.proofs.ClassLemmas.{tokens_are_of_classes}
 use Rattle.reordered_text_laws.proofs.SignLemmas.{signed_marks_stand}
 use Rattle.reordered_text_laws.proofs.TreeLemmas.{trees_have_marks}
+use Rattle.reordered_text_laws.proofs.Across.{last_is}
 use Rattle.reordered_tree_laws.specs.Reordered.{is_parenthesised, is_among}
 use Rattle.template_rules.specs.Functions.{names_function}
-use Rattle.template_rules.specs.Lists.{separators, parameters_at, arguments_of, count_of}
+use Rattle.template_rules.specs.Lists.{separators, arguments_of, count_of}
 use Rattle.template_rules.specs.Lists as lists
 use Rattle.template_rules.specs.MacroOffences.{is_direct_at, is_line_number}
 use Rattle.template_rules.specs.Marks.{is_between}
@@ -77,18 +79,9 @@ in_of [] k x e = absurd (cc)
 in_of (y ∷ xs) zero x e = inl (same_Some y x e)
 in_of (y ∷ xs) (suc k) x e = inr (in_of xs k x e)
 
-any_of : {X : Type 0} (test : X → Bool) (xs : List X) (x : X) → In x xs → test x ≡ true → list_any test xs ≡ true
-any_of test [] x i h = absurd i
-any_of test (y ∷ xs) x (inl e) h = or_left (test y) (list_any test xs) (ap test e ∙ h)
-any_of test (y ∷ xs) x (inr i) h = or_right (test y) (list_any test xs) (any_of test xs x i h)
-
 all_each : (test : ℕ → Bool) (xs : List ℕ) → list_all test xs ≡ true → Each (λ i. test i ≡ true) xs
 all_each test [] h = tt
 all_each test (x ∷ xs) h = let both = and_parts (test x) (list_all test xs) h in (both.0, all_each test xs both.1)
-
-last_is : (m : ℕ) (ms : List ℕ) (k : ℕ) → last_after m (ms ++ k ∷ []) ≡ k
-last_is m [] k = refl
-last_is m (x ∷ ms) k = last_is x ms k
 
 pub entry_from : (f : Forest) (k : ℕ) → AreFrom k f → (x : Entry) → In x (entries f) → (j : ℕ) × AreFrom j x.under
 entry_from none k w x i = absurd i

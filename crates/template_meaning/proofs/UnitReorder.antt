@@ -26,6 +26,7 @@ use Rattle.tree_laws.specs.ReadTexts.{Reads, ReadParameterListsAreInOrder}
 use Rattle.tree_laws.specs.Shapes.{has_no_declaring}
 use Rattle.tree_laws.specs.TreesOfTexts.{token_count, AreFrom, begins_with_token, has_form, have_forms}
 use Rattle.tree_laws.proofs.Lookups.{In}
+use Rattle.tree_laws.proofs.TokenEnds.{any_of as in_any}
 use Rattle.tree_laws.specs.Told.{is_tag, IsName, TagTold, NodeTold, AreOthers, AreTold}
 use Rattle.reordered_tree_laws.specs.Premises.{is_bracketed, is_item_production, lists_pass, tags_in, is_item, are_apart}
 use Rattle.reordered_tree_laws.specs.Reordered.{nodes_in, is_parenthesised, is_among}
@@ -42,7 +43,6 @@ use Rattle.template_meaning.proofs.Forms.{is_param, args_pass, params_items}
 use Rattle.template_meaning.proofs.ItemForms.{IsClean, tag_more, clean_constant, IsPart, part_behind, part_rest}
 use Rattle.template_meaning.proofs.ItemPairs.{none_apart, params_apart}
 use Rattle.template_meaning.proofs.ItemQuiet.{item_is}
-use Rattle.template_meaning.proofs.ItemUses.{in_any}
 use Rattle.template_meaning.proofs.ItemsApart.{free_items}
 use Rattle.template_meaning.proofs.ListTests.{item_part, no_param, param_item, items_nodes, nodes_pass, NodesTest, IsGood, passes, first_range}
 use Rattle.template_meaning.proofs.OuterList.{IsFree, outer_each}

@@ -1,9 +1,8 @@
 -- The units of an analysis: they are read and bound, and their identifiers come from files.
 use mathlib.Core.List.{reverse-cons}
-use Rattle.std.proofs.Common.{◌≡◌, ℕ, zero, suc, ◌+◌, ◌≤◌, not, if◌then◌else◌, Bool, true, false, List, [], ◌∷◌, length, Option, None, Some, Ok, refl, sym, ap, subst, ◌∙◌, arith}
+use Rattle.std.proofs.Common.{◌≡◌, ℕ, zero, suc, ◌≤◌, if◌then◌else◌, Bool, true, false, List, [], ◌∷◌, length, Option, None, Some, Ok, refl, sym, ap, subst, ◌∙◌, arith}
 use Rattle.std.specs.Prelude.{◌==◌, ◌++◌, slice_get, find, reverse, option_map}
 use Rattle.std.specs.List.{list_all, All}
-use Rattle.std.specs.Str.{bytes_eq}
 use Rattle.std.specs.Option.{option_map_or, option_and_then}
 use Rattle.std.proofs.lemmas.Bool.{and_parts, both_ways, eqb-true}
 use Rattle.std.proofs.lemmas.Option.{same_Some}
@@ -12,24 +11,19 @@ use Rattle.cs_base.specs.declared.positions.Pos.{Pos}
 use Rattle.cs_base.specs.declared.tokens.Kind.{Kind}
 use Rattle.cs_base.specs.declared.tokens.Kind.TheVariants as kind
 use Rattle.c99_grammar.specs.declared.dialects.Edition.{Edition}
-use Rattle.cs_base.specs.declared.ws_units.Standard.{Standard}
 use Rattle.cs_base.specs.Token.{Token, origin_at}
-use Rattle.cs_base.specs.Units.{UnitValue}
 use Rattle.lexer.specs.Spelling.{is_identifier_text}
 use Rattle.line_shape.specs.Signs.{is_name}
 use Rattle.line_shape.specs.Signs as signs
 use Rattle.expansion_laws.specs.Spelled.{fits, is_spelled}
 use Rattle.ws_file.specs.Workspace.{WorkspaceValue}
-use Rattle.source_files.specs.Faults.{Fault}
-use Rattle.source_files.specs.Files.{Source, Table, Carried, nothing_carried}
-use Rattle.unit_steps.specs.Texts.{UnitTextValue}
-use Rattle.c99_grammar.specs.Spellings.{Spelled, punctuators}
+use Rattle.source_files.specs.Files.{Source}
+use Rattle.c99_grammar.specs.Spellings.{punctuators}
 use Rattle.c99_grammar.specs.Dialects.{edition}
 use Rattle.c99_grammar.specs.Standard.{iso}
-use Rattle.c99_grammar.specs.TokenClasses.{spelled_class, class_of_kind, base_class}
-use Rattle.c99_read.specs.Reading.{read_of}
+use Rattle.c99_grammar.specs.TokenClasses.{class_of_kind, base_class}
 use Rattle.c99_read.specs.State.{base_at, is_identifier}
-use Rattle.scope_bind.specs.Bound.{binding_of}
+use Rattle.c99_read.proofs.ReadLemmas.{sign_class}
 use Rattle.scope_bind.specs.Names.{entity_at}
 use Rattle.scope_bind.specs.declared.bound.Name.{Name}
 use Rattle.tree_laws.proofs.HeldNames.{bound_names_pass}
@@ -38,6 +32,7 @@ use Rattle.tree_laws.proofs.OfTexts.{trees_of_texts}
 use Rattle.analysis.specs.Analysis.{UnitAnalysis, AnalysisValue, analysis_of}
 use Rattle.analysis.specs.GnuUnits.{gnu_places}
 use Rattle.lexer.proofs.FitLemmas.{identifier-words}
+use Rattle.lexer.proofs.NameLemmas.{some_text}
 use Rattle.analysis.proofs.NamingLemmas.{split_at}
 use Rattle.expansion_laws.proofs.ListLemmas.{toks_at}
 use Rattle.edited_unit_laws.proofs.ListLemmas.{In, found}
@@ -79,23 +74,6 @@ bound_name names k e at = by (find (λ (n : Name). n.index == k) (reverse names)
 
 -- ---- classes of tokens
 
-sign_class : (words : List Spelled) (text : List ℕ) (other : _) → list_all (λ w. not (is_identifier w.1)) words ≡ true → is_identifier other ≡ false
-    → is_identifier (spelled_class words text other) ≡ false
-unfolding spelled_class
-sign_class [] text other all last = last
-sign_class (w ∷ words) text other all last =
-    let both = and_parts (not (is_identifier w.1)) (list_all (λ v. not (is_identifier v.1)) words) all in
-    by (bytes_eq text w.0) both.0 (sign_class words text other both.1 last)
-  where
-    not_true : (b : Bool) → not b ≡ true → b ≡ false
-    not_true true k = absurd (cc)
-    not_true false k = refl
-
-    by : (c : Bool) → not (is_identifier w.1) ≡ true → is_identifier (spelled_class words text other) ≡ false
-        → is_identifier (if c then w.1 else spelled_class words text other) ≡ false
-    by true k m = not_true (is_identifier w.1) k
-    by false k m = m
-
 kind_named : (std : Edition) (k : Kind) (text : List ℕ) → is_identifier (class_of_kind (iso std) k text) ≡ true → signs.is_identifier k ≡ true
 kind_named std kind.Ident text h = refl
 kind_named std kind.Punct text h = absurd (both_ways (is_identifier (class_of_kind (iso std) kind.Punct text)) (sign_class punctuators text _ refl refl) h)
@@ -121,10 +99,6 @@ named_token std toks k h = by (slice_get toks k) (k == length toks) refl h
     by (Some t) c at is = (t, at, class_named std t is)
 
 -- ---- identifiers come from files
-
-some_text : (text : List ℕ) → is_identifier_text text ≡ true → 1 ≤ length text
-some_text [] h = absurd (cc)
-some_text (c ∷ text) h = omega arith
 
 first_some : (a : AnalysisValue) (os : List (Option Pos)) → AreChained a os → 1 ≤ length os
     → (p : Pos) × (option_and_then (λ (o : Option Pos). o) (slice_get os 0) ≡ Some p)

@@ -8,6 +8,7 @@ use Rattle.c99_grammar.specs.declared.classes.Class.TheVariants.{Comma}
 use Rattle.c99_grammar.specs.Standard.{Grammar}
 use Rattle.c99_read.specs.State.{base_at}
 use Rattle.cs_base.specs.Token.{Token}
+use Rattle.cs_base.proofs.NumberLemmas.{even_next, odd_next}
 use Rattle.c_types.specs.Lists.{odd_tokens}
 use Rattle.c_types.specs.Trees.{first_token, last_token}
 use Rattle.tree_laws.proofs.Lookups.{In}
@@ -90,12 +91,6 @@ AreCommas g toks (classes.a_token i ∷ []) = ⊥
 AreCommas g toks (classes.a_token i ∷ classes.a_node ∷ w) = (base_at g toks i ≡ Comma) × AreCommas g toks w
 AreCommas g toks (classes.a_token i ∷ classes.a_token j ∷ w) = (base_at g toks i ≡ Comma) × (w ≡ [])
 AreCommas g toks (classes.a_node ∷ w) = ⊥
-
-odd_next : (k : ℕ) → k % 2 ≡ 0 → (k + 1) % 2 ≡ 1
-odd_next k e = omega (arith, e)
-
-even_next : (k : ℕ) → k % 2 ≡ 1 → (k + 1) % 2 ≡ 0
-even_next k e = omega (arith, e)
 
 not_odd : (k : ℕ) → k % 2 ≡ 0 → (k % 2 == 1) ≡ false
 not_odd k e = by (k % 2 == 1) refl

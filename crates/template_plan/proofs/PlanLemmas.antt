@@ -1,13 +1,13 @@
 -- What is answered for a place, by what is answered for a class.
-use Rattle.std.proofs.Common.{◌≡◌, ℕ, ◌<◌, true, false, Bool, List, [], ◌++◌, Option, Some, None, Result, Ok, Err, length, refl, sym, ◌∙◌}
-use Rattle.std.specs.Prelude.{◌==◌, ◌&&◌, IfOk, IfSome}
-use Rattle.std.specs.List.{list_all}
-use Rattle.std.proofs.lemmas.Bool.{and_parts, eqb-true}
+use Rattle.std.proofs.Common.{◌≡◌, ℕ, true, false, List, [], Option, Some, None, Result, Err, length, refl}
+use Rattle.std.specs.Prelude.{IfSome}
 use Rattle.cs_base.specs.declared.positions.Part.{Part}
 use Rattle.cs_base.specs.Edit.{Edit}
-use Rattle.list_cuts.specs.Cuts.{IsOrder, numbers}
-use Rattle.list_cuts.specs.Orders.{is_order, has_number}
-use Rattle.analysis.specs.Below.source_files.Files.{Entry, Table}
+use Rattle.cs_base.proofs.BoolLemmas.{not_both}
+use Rattle.list_cuts.specs.Cuts.{IsOrder}
+use Rattle.list_cuts.specs.Orders.{is_order}
+use Rattle.list_cuts.proofs.PlanLemmas.{is_of_length}
+use Rattle.analysis.specs.Below.source_files.Files.{Table}
 use Rattle.analysis.specs.Analysis.{AnalysisValue}
 use Rattle.offences.specs.declared.firsts.Offence.{Offence}
 use Rattle.offences.specs.declared.refusals.Refusal.{Refusal}
@@ -27,16 +27,10 @@ first_of table more first then_ = then_.goes_on [] refl
 
 -- ---- orders
 
-pub is_of_length : (n : ℕ) (order : List ℕ) → is_order n order ≡ true → length order ≡ n
-is_of_length n order is = eqb-true (length order) n (and_parts (length order == n) (list_all (has_number order) (numbers 1 n)) is).0
-
 pub order_told : (n : ℕ) (order : List ℕ) → is_order n order ≡ true → IsOrder n order → IsOrder (length order) order
 order_told n order is told = rw (is_of_length n order is) told
 
 -- ---- answers for a class
-
-not_both : (b : Bool) → b ≡ true → b ≡ false → ⊥
-not_both b is other = let e : true ≡ false = sym is ∙ other in cc
 
 module _ (a : AnalysisValue) (members : List Part) (order : List ℕ) where
   pub no_function : has_function members a ≡ false → IsOrdered a members order (Err NotAFunction)

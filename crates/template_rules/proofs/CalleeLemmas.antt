@@ -1,13 +1,14 @@
 -- Calls by their names, in their order.
-use Rattle.std.proofs.Common.{◌≡◌, ℕ, ◌<◌, ◌≤◌, Bool, true, false, List, [], length, get_or, Some, slice_get, inl, inr, refl, sym, ap, ◌∙◌, arith}
+use Rattle.std.proofs.Common.{◌≡◌, ℕ, ◌<◌, ◌≤◌, Bool, true, false, List, [], length, get_or, Some, slice_get, inl, inr, sym, ap, ◌∙◌, arith}
 use Rattle.std.specs.Prelude.{◌==◌, nat_lt}
 use Rattle.std.specs.List.{list_any}
 use Rattle.std.specs.List.Sorted.{IsNonDecreasingBy, IsPartitionPoint}
 use Rattle.std.proofs.lemmas.Bool.{cases_Bool, eq-eqb, ltb-true, ltb-false, ne_eqb}
 use Rattle.std.proofs.lemmas.List.{get_or_default}
 use Rattle.std.proofs.lemmas.Option.{get_or_from_slice_get, slice_get-get_or, slice_get_within}
+use Rattle.cs_base.proofs.ListLemmas.{any_there as some_at}
 use Rattle.c_types.specs.declared.lists.List.{List as NameList}
-use Rattle.template_rules.proofs.PlaceLemmas.{none_passes, some_at}
+use Rattle.template_rules.proofs.PlaceLemmas.{none_passes}
 
 module _ (xs : List NameList) (k n : ℕ) (cut : IsPartitionPoint (λ l. nat_lt l.name k ≡ true) (λ l. nat_lt l.name k ≡ false) xs n) where
   abbrev is_name : NameList → Bool

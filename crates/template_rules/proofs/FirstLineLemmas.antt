@@ -1,12 +1,10 @@
 -- The first of some lines, and of one more.
-use Rattle.std.proofs.Common.{◌≡◌, ℕ, ◌<◌, ◌≤◌, Bool, true, false, List, [], ◌∷◌, ◌++◌, Option, Some, None, inl, inr, refl, sym, ◌∙◌, arith}
+use Rattle.std.proofs.Common.{◌≡◌, ℕ, ◌<◌, ◌≤◌, true, false, List, [], ◌∷◌, ◌++◌, Option, Some, None, inl, inr, refl, arith}
 use Rattle.cs_base.specs.declared.positions.Pos.{Pos}
+use Rattle.cs_base.proofs.BoolLemmas.{not_both}
 use Rattle.offences.proofs.AmongLemmas.{either_among, still_among, now_among}
 use Rattle.template_rules.specs.declared.odd_lines.OddLine.{OddLine}
 use Rattle.template_rules.specs.OddLines.{FirstAmong, is_line_among}
-
-not_both : (b : Bool) → b ≡ true → b ≡ false → ⊥
-not_both b is other = let e : true ≡ false = sym is ∙ other in cc
 
 module _ (lines : List OddLine) (from : Pos) (to : ℕ) (o : OddLine) where
   pub first_kept : (best : Option Pos) → is_line_among from to o ≡ false → FirstAmong lines from to best → FirstAmong (lines ++ o ∷ []) from to best

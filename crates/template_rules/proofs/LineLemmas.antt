@@ -1,23 +1,19 @@
 -- Lines of the logical text, and how they follow each other.
-use Rattle.std.proofs.Common.{◌≡◌, ℕ, zero, suc, ◌+◌, ◌-◌, ◌<◌, ◌≤◌, Bool, true, false, not, List, [], ◌∷◌, length, get_or, Option, Some, None, slice_get, inl, inr, refl, sym, ap, subst, ◌∙◌, arith}
-use Rattle.std.specs.Prelude.{◌==◌, ◌&&◌, ◌||◌, nat_le, nat_lt, ◌⊎◌}
+use Rattle.std.proofs.Common.{◌≡◌, ℕ, zero, suc, ◌+◌, ◌-◌, ◌<◌, ◌≤◌, Bool, true, false, not, List, [], length, get_or, Option, Some, None, slice_get, inl, inr, refl, sym, ap, ◌∙◌, arith}
+use Rattle.std.specs.Prelude.{◌==◌, ◌&&◌, nat_le, nat_lt, ◌⊎◌}
 use Rattle.std.specs.Option.{option_map_or}
 use Rattle.std.specs.List.Sorted.{IsPartitionedBy}
 use Rattle.std.proofs.lemmas.Bool.{cases_Bool, and_parts, eqb-true}
 use Rattle.std.proofs.lemmas.Bool.Decides.{nat_tests}
 use Rattle.std.proofs.lemmas.Option.{slice_get-get_or, slice_get_within, get_or_from_slice_get}
 use Rattle.cs_base.specs.declared.positions.Pos.{Pos}
+use Rattle.cs_base.proofs.BoolLemmas.{bool_same, not_true}
 use Rattle.analysis.specs.Below.source_files.Files.{Table}
 use Rattle.analysis.specs.Below.source_files.KeptFiles.{KeptValue, kept_at}
 use Rattle.offences.specs.First.{IsAmong}
 use Rattle.template_rules.specs.declared.odd_lines.OddLine.{OddLine}
 use Rattle.template_rules.specs.LineOffences.{is_among_lines, is_line_among as in_lines, is_line_feed_at, line_begin}
 use Rattle.template_rules.specs.OddLines.{AreInOrder, ArePlaced, FirstAmong, IsCut, IsLineEnd, IsLineIn, IsOddLine, IsPlaced, comes_before, ends_before, is_before, is_line_among}
-
-bool_same : (x y : Bool) → (x ≡ true → y ≡ true) → (y ≡ true → x ≡ true) → x ≡ y
-bool_same true y f g = sym (f refl)
-bool_same false true f g = g refl
-bool_same false false f g = refl
 
 -- ---- where lines begin
 
@@ -195,10 +191,6 @@ before_through p o n placed front is =
             before_end p o (same.0 ∙ here.0) (ends_up o.end n.begin p.at same.1 (omega (arith, placed.0, behind)))
       ]
     ]
-
-not_true : (b : Bool) → not b ≡ true → b ≡ false
-not_true true is = absurd (cc)
-not_true false is = refl
 
 -- a line among these is not before their first
 among_parts : (from : Pos) (to : ℕ) (o : OddLine) → is_line_among from to o ≡ true

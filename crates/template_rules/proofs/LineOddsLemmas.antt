@@ -5,17 +5,19 @@ use Rattle.std.specs.List.{flat_map, list_any}
 use Rattle.std.specs.Option.{option_map_or}
 use Rattle.std.proofs.lemmas.Bool.{cases_Bool, and_parts, eqb-true}
 use Rattle.std.proofs.lemmas.Bool.Decides.{nat_tests}
-use Rattle.std.proofs.lemmas.List.{map-append, take_more, take_all}
+use Rattle.std.proofs.lemmas.List.{map-append, take_more}
 use Rattle.cs_base.specs.declared.causes.Cause.TheVariants as cause
 use Rattle.cs_base.specs.declared.positions.Pos.{Pos}
 use Rattle.cs_base.specs.Token.{Token}
+use Rattle.cs_base.proofs.BoolLemmas.{bool_same, not_both, or_last}
+use Rattle.cs_base.proofs.PlaceLemmas.{nothing_at}
 use Rattle.c_types.specs.declared.lists.List.{List as NameList}
 use Rattle.list_cuts.specs.Cuts.{numbers}
 use Rattle.analysis.specs.Below.source_files.Files.{Table}
 use Rattle.analysis.specs.Below.source_files.KeptFiles.{KeptValue, kept_at}
 use Rattle.analysis.specs.Below.unit_steps.Texts.{UnitTextValue}
 use Rattle.offences.specs.declared.firsts.Offence.{Offence}
-use Rattle.offences.specs.First.{offence, offence_cmp, standing, IsAmong, FirstThen}
+use Rattle.offences.specs.First.{offence, standing, IsAmong, FirstThen}
 use Rattle.offences.proofs.FirstLemmas.{then_both, then_none}
 use Rattle.offences.proofs.AmongLemmas.{either_among, still_among, now_among}
 use Rattle.template_rules.specs.declared.odd_lines.OddLine.{OddLine}
@@ -26,9 +28,6 @@ use Rattle.template_rules.specs.LineOffences.{is_among_lines, is_among_list, is_
 use Rattle.template_rules.specs.OddLines.{AddsLine, AreOdd, ArePlaced, FirstAmong, IsLineIn, IsOddLine, IsTold, is_line_among, odd_among, odds_among, odds_among_list, odds_by_list, odds_by_token, with_line}
 use Rattle.template_rules.proofs.LineLemmas.{odd_line, same_line}
 use Rattle.template_rules.proofs.ToldLemmas.{among_either, among_left, among_one, among_right, in_flat, in_map, later_in_file, none_among, not_among, of_flat, of_map, then_same, then_told}
-
-not_both : (b : Bool) → b ≡ true → b ≡ false → ⊥
-not_both b is other = let e : true ≡ false = sym is ∙ other in cc
 
 -- what stands at a place where a test says so
 place_if : (b : Bool) (p q : Pos) → IsAmong (cond b (p ∷ []) []) q → (b ≡ true) × (q ≡ p)
@@ -164,11 +163,6 @@ module _ (table : Table) (odds : List Pos) (lines : List OddLine) (odd : AreOdd 
 
 -- ---- tokens in the line of a token
 
-bool_same : (x y : Bool) → (x ≡ true → y ≡ true) → (y ≡ true → x ≡ true) → x ≡ y
-bool_same true y f g = sym (f refl)
-bool_same false true f g = g refl
-bool_same false false f g = refl
-
 one_line : (p q : ℕ) (f : KeptValue) → in_lines p q q f ≡ is_one_line p q f
 one_line p q f =
     bool_same (in_lines p q q f) (is_one_line p q f)
@@ -192,10 +186,6 @@ or_of false b is = inr is
 
 or_first : (a b : Bool) → a ≡ true → (a || b) ≡ true
 or_first a b is = rw is refl
-
-or_last : (a b : Bool) → b ≡ true → (a || b) ≡ true
-or_last true b is = refl
-or_last false b is = is
 
 pub any_of : {X : Type 0} (p : X → Bool) (xs : List X) → list_any p xs ≡ true → (x : X) × IsAmong xs x × (p x ≡ true)
 any_of p [] is = absurd (cc)
@@ -354,12 +344,6 @@ pub by_token-at : (table : Table) (odds : List Pos) (toks : List Token) (k : ℕ
     → p ≡ tok.at → FirstThen table (standing cause.OddToken (odds_among table odds p p)) a b
     → FirstThen table (standing cause.OddToken (odds_by_token table odds toks k)) a b
 by_token-at table odds toks k tok p a b at is then_ = rw at (rw is at then_)
-
-nothing_at : (ts : List Token) (k : ℕ) → length ts ≤ k → slice_get ts k ≡ None
-nothing_at [] zero past = refl
-nothing_at [] (suc k) past = refl
-nothing_at (t ∷ ts) zero past = absurd (omega (arith, past))
-nothing_at (t ∷ ts) (suc k) past = nothing_at ts k (omega (arith, past))
 
 pub by_token-past : (table : Table) (odds : List Pos) (toks : List Token) (k : ℕ) (a : Option Offence) → length toks ≤ k
     → FirstThen table (standing cause.OddToken (odds_by_token table odds toks k)) a a

@@ -1,5 +1,5 @@
 -- The lists in a file, one after another, and the edits of files.
-use Rattle.std.proofs.Common.{◌≡◌, ℕ, zero, suc, ◌+◌, ◌-◌, ◌<◌, ◌≤◌, Bool, true, false, List, [], ◌∷◌, ◌++◌, length, get_or, take, drop, Option, Some, None, Result, Ok, Err, slice_get, inl, inr, refl, sym, ap, ◌∙◌, append_assoc, append-nil, arith}
+use Rattle.std.proofs.Common.{◌≡◌, ℕ, zero, suc, ◌+◌, ◌<◌, ◌≤◌, Bool, true, List, [], ◌∷◌, ◌++◌, length, get_or, take, drop, Result, Ok, Err, inl, inr, refl, sym, ap, ◌∙◌, arith}
 use Rattle.std.specs.Prelude.{◌==◌, if◌then◌else◌, nat_lt, OnOk}
 use Rattle.std.specs.List.{flat_map, insert}
 use Rattle.std.specs.List.Sorted.{IsNonDecreasingBy}
@@ -13,14 +13,12 @@ use Rattle.cs_base.specs.declared.positions.Part.{Part}
 use Rattle.cs_base.specs.Edit.{Edit, edit}
 use Rattle.cs_base.specs.Token.{Token}
 use Rattle.edited_files.specs.Edited.{with_edit, with_each}
-use Rattle.list_cuts.specs.declared.spans.Span.{Span}
+use Rattle.edited_files.proofs.EditLemmas.{with_each-append, with_each-one}
 use Rattle.analysis.specs.Below.source_files.Files.{Table, Entry, Absent, entry}
 use Rattle.analysis.specs.Below.source_files.KeptFiles.{KeptValue, kept_at}
-use Rattle.analysis.specs.Below.unit_steps.Texts.{UnitTextValue}
-use Rattle.analysis.specs.Below.scope_bind.Bound.{Bound}
-use Rattle.analysis.specs.Analysis.{UnitAnalysis, AnalysisValue}
+use Rattle.analysis.specs.Analysis.{AnalysisValue}
 use Rattle.template_rules.specs.declared.file_lists.FoundList.{FoundList}
-use Rattle.template_rules.specs.FileLists.{all_found, begin_of, begins_at, place_for, function_list, unit_found, marks_in, with_list, with_lists, item_between, items_of, new_bytes, edit_for, edit_in, edits_from, edits_of}
+use Rattle.template_rules.specs.FileLists.{all_found, begin_of, begins_at, place_for, marks_in, with_list, with_lists, item_between, items_of, new_bytes, edit_for, edit_in, edits_from, edits_of}
 use Rattle.template_rules.proofs.EditLemmas.{edit_for-some}
 use Rattle.template_rules.proofs.StepLemmas.{flat_map-more}
 
@@ -106,19 +104,6 @@ module _ (bytes : List ℕ) (toks : List Token) where
   items_end (x ∷ list) (suc k) past = items_end list k (omega (arith, past))
 
 -- ---- edits
-
-pub with_each-append : (xs ys edits : List Edit) → with_each (xs ++ ys) edits ≡ with_each ys (with_each xs edits)
-unfolding with_each
-with_each-append [] ys edits = refl
-with_each-append (e ∷ xs) ys edits = with_each-append xs ys (with_edit e edits)
-
-pub with_each-one : (e : Edit) (edits : List Edit) → with_each (e ∷ []) edits ≡ with_edit e edits
-unfolding with_each
-with_each-one e edits = refl
-
-pub with_each-none : (edits : List Edit) → with_each [] edits ≡ edits
-unfolding with_each
-with_each-none edits = refl
 
 module _ (found : List FoundList) (order : List ℕ) where
   edits-more : (table : Table) (k : ℕ) → k < length table

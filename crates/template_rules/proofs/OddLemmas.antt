@@ -1,15 +1,14 @@
 -- Lines of the logical text, and the odd tokens of all files.
-use Rattle.std.proofs.Common.{◌≡◌, ℕ, zero, suc, ◌+◌, ◌-◌, ◌<◌, ◌≤◌, Bool, true, false, List, [], ◌∷◌, ◌++◌, length, get_or, drop, Option, Some, None, Ok, slice_get, refl, sym, ap, ◌∙◌, append_assoc, append-nil, inl, inr, arith}
+use Rattle.std.proofs.Common.{◌≡◌, ℕ, zero, suc, ◌+◌, ◌-◌, ◌<◌, ◌≤◌, true, false, List, [], ◌∷◌, ◌++◌, length, get_or, drop, Option, Some, None, Ok, slice_get, refl, sym, ap, ◌∙◌, append_assoc, append-nil, inl, inr, arith}
 use Rattle.std.specs.Prelude.{◌==◌, ◌^◌, nat_lt, is_some}
 use Rattle.std.specs.List.{flat_map}
 use Rattle.std.specs.Option.{option_map, option_map_or}
 use Rattle.std.proofs.lemmas.Bool.{cases_Bool}
 use Rattle.std.proofs.lemmas.Bool.Decides.{nat_tests}
 use Rattle.std.proofs.lemmas.Grind.{flat_map-append}
-use Rattle.std.proofs.lemmas.List.{at_drop_more, at_drop_all}
-use Rattle.std.proofs.lemmas.Option.{slice_get-get_or}
+use Rattle.std.proofs.lemmas.List.{at_drop_all}
+use Rattle.std.proofs.lemmas.Option.{same_Some as one}
 use Rattle.cs_base.specs.declared.positions.Pos.{Pos}
-use Rattle.cs_base.specs.Limits.{most_bytes}
 use Rattle.cs_base.specs.Token.{Token}
 use Rattle.analysis.specs.Below.lexer.FileText.{TextValue, file_text}
 use Rattle.analysis.specs.Below.lexer.Characters.{line_feed}
@@ -17,9 +16,11 @@ use Rattle.analysis.specs.Below.lexer.Logical.{Character, character, logical_fro
 use Rattle.analysis.specs.Below.lexer.Lines.{byte_offset_of}
 use Rattle.analysis.specs.Below.lexer.GoneTable.{going}
 use Rattle.analysis.proofs.Below.lexer.GoneLemmas.{logical_from-going, logical_from-empty}
-use Rattle.analysis.specs.Below.source_files.Files.{Table, Entry, Absent, entry}
+use Rattle.analysis.proofs.Below.lexer.OrderLemmas.{few_bytes, nothing, offset_none}
+use Rattle.analysis.specs.Below.source_files.Files.{Table}
 use Rattle.analysis.specs.Below.source_files.KeptFiles.{kept_at}
 use Rattle.offences.specs.Tokens.{file_toks, kept_tokens}
+use Rattle.offences.proofs.UnitLemmas.{kept-more}
 use Rattle.template_rules.specs.LineOffences.{is_line_feed_at, line_begin}
 
 -- ---- bytes of characters
@@ -42,13 +43,6 @@ first at b bs c is =
     let none : c.offset - at ≡ 0 = omega (arith, offset) in
     record { behind = omega (arith, offset); inside = omega (arith, offset); byte = rw none byte }
 
-one : {X : Type 0} (x y : X) → Some x ≡ Some y → x ≡ y
-one x y e = cc
-
-nothing : (k : ℕ) (c : Character) → slice_get [] k ≡ Some c → ⊥
-nothing zero c e = cc
-nothing (suc k) c e = cc
-
 character_byte : (skip at k : ℕ) (bs : List ℕ) (c : Character) → slice_get (logical_from skip at bs) k ≡ Some c → IsByte at bs c
 character_byte skip at k [] c found =
     let none = rw (logical_from-empty skip at) at found in absurd (nothing k c none)
@@ -68,11 +62,6 @@ character_byte skip at (suc k) (b ∷ bs) c found = elim (cases_Bool (going skip
       let there = rw (logical_from-going skip at b bs, goes) at found in
       later at b bs c (character_byte (going skip b bs - 1) (at + 1) (suc k) bs c there)
 ]
-
-offset_none : (r : Option Character) → option_map (λ (c : Character). c.offset) r ≡ None
-    → option_map_or (λ (c : Character). c.byte == line_feed) r false ≡ false
-offset_none None is = refl
-offset_none (Some c) is = absurd cc
 
 offset_some : (r : Option Character) (b : ℕ) → option_map (λ (c : Character). c.offset) r ≡ Some b
     → (c : Character) × (r ≡ Some c) × (c.offset ≡ b)
@@ -133,13 +122,6 @@ character_behind bytes k b is =
     let at = character_after 0 0 k bytes c.0 c.1 in
     omega (arith, at, c.2)
 
-few_bytes : (file : ℕ) (bytes : List ℕ) (text : TextValue) → file_text file bytes ≡ Ok text → length bytes ≤ most_bytes
-unfolding file_text
-few_bytes file bytes text is = elim (cases_Bool (nat_lt most_bytes (length bytes))) [
-  | inl large ↦ let wrong = rw large at is in absurd (cc)
-  | inr small ↦ grind (arith, nat_tests)
-]
-
 -- so a character has a number of 32 bits, and so has the one behind it
 pub character_fits : (file : ℕ) (bytes : List ℕ) (text : TextValue) (k b : ℕ) → file_text file bytes ≡ Ok text → byte_offset_of bytes k ≡ Some b
     → k + 1 < 2 ^ 32
@@ -183,14 +165,6 @@ feeds_more bytes at end before here = (
 )
 
 -- ---- all files
-
-kept-more : (table : Table) (k : ℕ) → k < length table
-    → kept_tokens k (drop k table) ≡ option_map_or file_toks (kept_at table k) [] ++ kept_tokens (k + 1) (drop (k + 1) table)
-unfolding kept_tokens
-kept-more table k within =
-    let d : Entry = entry [] Absent in
-    let found = slice_get-get_or table k d within in
-    at_drop_more (kept_tokens k) table k d within ∙ rw found refl
 
 pub odd_files_next : (f : Token → List Pos) (table : Table) (k : ℕ) (out more whole : List Pos) → k < length table
     → out ++ flat_map f (kept_tokens k (drop k table)) ≡ whole → more ≡ out ++ flat_map f (option_map_or file_toks (kept_at table k) [])

@@ -1,5 +1,5 @@
 -- Offences that tell of others: where none comes before all of them, the first of them is the first of all.
-use Rattle.std.proofs.Common.{◌≡◌, ℕ, zero, suc, ◌+◌, ◌<◌, ◌≤◌, List, [], ◌∷◌, ◌++◌, Option, Some, None, inl, inr, refl, sym, ap, ◌∙◌, slice_get, arith}
+use Rattle.std.proofs.Common.{◌≡◌, ℕ, zero, suc, ◌<◌, ◌≤◌, List, [], ◌∷◌, ◌++◌, Option, Some, None, inl, inr, refl, sym, ap, ◌∙◌, arith}
 use Rattle.std.specs.Prelude.{◌⊎◌, map}
 use Rattle.std.specs.List.{flat_map}
 use Rattle.std.specs.Cmp.{IsTotalOrder}
@@ -11,6 +11,7 @@ use Rattle.std.proofs.lemmas.Cmp.{ranked, then_total, on_total, nat_list_cmp_tot
 use Rattle.cs_base.specs.declared.causes.Cause.{Cause}
 use Rattle.cs_base.specs.declared.positions.Pos.{Pos}
 use Rattle.cs_base.specs.Order.{number_of}
+use Rattle.cs_base.proofs.ListLemmas.{front_none as nil_before, nil_behind}
 use Rattle.analysis.specs.Below.source_files.Files.{Table}
 use Rattle.offences.specs.declared.firsts.Offence.{Offence}
 use Rattle.offences.specs.First.{offence, offence_cmp, path_of, position_cmp, standing, IsAmong, IsFirst, FirstThen}
@@ -81,14 +82,6 @@ offence_cmp-total table =
     then_total
     (then_total (on_total (λ (o : Offence). path_of table o.at.file) nat_list_cmp_total) (on_total (λ (o : Offence). o.at.at) nat_cmp_total))
     (on_total (λ (o : Offence). number_of o.cause) nat_cmp_total)
-
-nil_before : {X : Type 0} (xs ys : List X) → xs ++ ys ≡ [] → xs ≡ []
-nil_before [] ys none = refl
-nil_before (x ∷ xs) ys none = absurd (cc)
-
-nil_behind : {X : Type 0} (xs ys : List X) → xs ++ ys ≡ [] → ys ≡ []
-nil_behind [] ys none = none
-nil_behind (x ∷ xs) ys none = absurd (cc)
 
 module _ (table : Table) where
   pub not_before_itself : (o : Offence) → offence_cmp table o o ≡ Less → ⊥

@@ -1,5 +1,5 @@
 -- Offences that are looked for in lists one after another are those that are looked for once, and then in these lists.
-use Rattle.std.proofs.Common.{◌≡◌, ◌≤◌, zero, suc, Bool, true, false, List, [], ◌∷◌, ◌++◌, Option, Some, None, inl, inr, refl, sym, ap, subst, ◌∙◌}
+use Rattle.std.proofs.Common.{◌≡◌, ◌≤◌, zero, suc, Bool, false, List, [], ◌∷◌, ◌++◌, Option, Some, None, inl, inr, refl, sym, ap, subst, ◌∙◌}
 use Rattle.std.specs.Prelude.{◌⊎◌, ◌&&◌, if◌then◌else◌, filter, nat_lt}
 use Rattle.std.specs.List.{flat_map}
 use Rattle.std.proofs.lemmas.Bool.{cases_Bool, le-ltb}
@@ -10,6 +10,8 @@ use Rattle.cs_base.specs.Token.{Token}
 use Rattle.cs_base.specs.declared.causes.Cause.{Cause}
 use Rattle.cs_base.specs.declared.causes.Cause.TheVariants as cause
 use Rattle.cs_base.specs.declared.positions.Pos.{Pos}
+use Rattle.cs_base.proofs.ListLemmas.{flat_map_same as flat_same}
+use Rattle.cs_base.proofs.BoolLemmas.{and_no}
 use Rattle.c_types.specs.declared.lists.List.{List as NameList}
 use Rattle.analysis.specs.Below.source_files.Files.{Table}
 use Rattle.analysis.specs.Below.unit_steps.declared.events.Event.{Event}
@@ -135,10 +137,6 @@ module _ (table : Table) where
 
 -- ---- lists that are put together
 
-flat_same : {X A : Type 0} (f g : X → List A) (xs : List X) → ((x : X) → f x ≡ g x) → flat_map f xs ≡ flat_map g xs
-flat_same f g [] same = refl
-flat_same f g (x ∷ xs) same = rw (same x, flat_same f g xs same) refl
-
 flat_none : {X A : Type 0} (f : X → List A) (xs : List X) → ((x : X) → f x ≡ []) → flat_map f xs ≡ []
 flat_none f [] none = refl
 flat_none f (x ∷ xs) none = rw (none x, flat_none f xs none) refl
@@ -212,10 +210,6 @@ module _ (f : UnitFunctions) where
       rw nothing (then_none table a)
 
 -- ---- a name that declares nothing inside a list
-
-and_no : (a b : Bool) → b ≡ false → (a && b) ≡ false
-and_no true b is = is
-and_no false b is = refl
 
 module _ (table : Table) (toks : List Token) (l : NameList) (n : Name) (first : Option Offence) where
   abbrev declared : List Offence

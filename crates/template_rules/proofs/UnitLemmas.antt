@@ -1,6 +1,6 @@
 -- What is asked of the units of an analysis with their functions is asked of its units.
-use Rattle.std.proofs.Common.{◌≡◌, ℕ, zero, suc, ◌+◌, ◌<◌, ◌++◌, Bool, true, false, List, [], ◌∷◌, length, get_or, Option, Some, None, slice_get, refl, sym, ap, ◌∙◌, subst, ◌⊎◌, inl, inr, arith}
-use Rattle.std.specs.Prelude.{◌==◌, ◌&&◌}
+use Rattle.std.proofs.Common.{◌≡◌, ℕ, suc, ◌<◌, ◌++◌, Bool, false, List, [], ◌∷◌, length, get_or, Option, Some, None, slice_get, refl, sym, ap, ◌∙◌, subst, inl, inr, arith}
+use Rattle.std.specs.Prelude.{◌==◌}
 use Rattle.std.specs.List.{flat_map, list_all, list_any}
 use Rattle.std.specs.Option.{option_map_or}
 use Rattle.std.proofs.lemmas.Option.{slice_get-get_or}
@@ -8,6 +8,7 @@ use Rattle.cs_base.specs.declared.positions.Part.{Part}
 use Rattle.cs_base.specs.declared.positions.Pos.{Pos}
 use Rattle.cs_base.specs.Token.{Token}
 use Rattle.cs_base.specs.declared.causes.Cause.TheVariants as cause
+use Rattle.cs_base.proofs.BoolLemmas.{and_no as and_none}
 use Rattle.analysis.specs.Below.source_files.Files.{Table}
 use Rattle.c_types.specs.declared.lists.List.{List as NameList}
 use Rattle.c_types.specs.declared.parameters.ParameterList.{ParameterList}
@@ -21,19 +22,18 @@ use Rattle.analysis.specs.Below.unit_steps.declared.events.Reached.{Reached}
 use Rattle.offences.specs.declared.firsts.Offence.{Offence}
 use Rattle.offences.specs.First.{standing, FirstThen}
 use Rattle.template_rules.specs.declared.counting.Declarator.{Declarator}
-use Rattle.template_rules.specs.declared.file_lists.FoundList.{FoundList}
 use Rattle.template_rules.specs.declared.unit_functions.UnitFunctions.{UnitFunctions}
 use Rattle.offences.specs.Class.{ClassValue}
 use Rattle.template_rules.specs.FileLists.{unit_found}
 use Rattle.template_rules.specs.Functions.{AreFunctionsOf, declares_function, is_function, names_function}
 use Rattle.template_rules.specs.Insides.{list_insides, unit_insides, unit_macro_names}
-use Rattle.template_rules.specs.Lists.{declarator_of, declarators_in, soonest}
+use Rattle.template_rules.specs.Lists.{declarator_of, declarators_in}
 use Rattle.template_rules.specs.MacroOffences.{replaced_place, pasted_place}
 use Rattle.template_rules.specs.Marks.{declarator_marks, call_marks, unit_marks}
 use Rattle.template_rules.specs.NameOffences.{name_offences, unit_names}
 use Rattle.template_rules.specs.Offences.{declarator_offences, call_offences, unit_lists}
 use Rattle.template_rules.specs.ScopeOffences.{body_lists_in}
-use Rattle.template_rules.specs.Units.{IsUnit, IsUnitAt, AreUnits, found_of}
+use Rattle.template_rules.specs.Units.{IsUnit, AreUnits, found_of}
 
 -- ---- one unit
 
@@ -72,10 +72,6 @@ flat_alike f g same (x ∷ xs) = rw (same x, flat_alike f g same xs) refl
 none_of : (h : ℕ → Bool) → ((e : ℕ) → h e ≡ false) → (o : Option ℕ) → option_map_or h o false ≡ false
 none_of h bare None = refl
 none_of h bare (Some e) = bare e
-
-and_none : (b c : Bool) → c ≡ false → (b && c) ≡ false
-and_none true c bare = bare
-and_none false c bare = refl
 
 -- a unit without functions of the class: its parameter lists do not matter
 module _ (members : List Part) (toks : List Token) (names : List Name) (entities : List ℕ) (own : AreFunctionsOf members toks names entities) (bare : entities ≡ []) where

@@ -1,7 +1,8 @@
 -- What the binder asks of the children of a node is the same of narrowed ones.
-use Rattle.std.proofs.Common.{ℕ, ◌≡◌, Bool, true, false, ◌&&◌, ◌||◌, not, if◌then◌else◌, ◌==◌, Option, None, Some, ◌⊎◌, inl, inr, refl, sym, ap, ◌∙◌}
+use Rattle.std.proofs.Common.{ℕ, ◌≡◌, Bool, true, false, ◌&&◌, ◌||◌, not, if◌then◌else◌, ◌==◌, None, Some, ◌⊎◌, inl, inr, refl, sym, ap, ◌∙◌}
 use Rattle.std.specs.Option.{option_or}
 use Rattle.std.proofs.lemmas.Bool.{and_parts, cases_Bool, eqb-true, not-true, false≢true}
+use Rattle.cs_base.proofs.OptionLemmas.{option_or-None as or_none}
 use Rattle.c99_tree.specs.Tree.{Forest, none, token, node}
 use Rattle.c99_tree.specs.declared.production.Label.{Label}
 use Rattle.c99_tree.specs.declared.production.Production.{Production}
@@ -241,10 +242,6 @@ declarator_type-same =
 
 abbrev ListSame : Forest → Forest → Type 0
 ListSame g f = first_list g ≡ first_list f
-
-pub or_none : {A : Type 0} (o : Option A) → option_or o None ≡ o
-or_none None = refl
-or_none (Some x) = refl
 
 pub first_list-same : (f : Forest) → formed true f ≡ true → first_list (narrowed f) ≡ first_list f
 first_list-same =

@@ -1,6 +1,6 @@
 -- A walk notes a token as a name as often as the tree shows at most.
 use Rattle.std.proofs.Common.{ℕ, ◌+◌, ◌≤◌, ◌≡◌, Bool, true, false, ◌||◌, not, if◌then◌else◌, ◌==◌, List, [], ◌∷◌, ◌++◌, Option, None, Some, inl, inr, refl, sym, ap, subst, ◌∙◌, arith}
-use Rattle.std.proofs.lemmas.Bool.{cases_Bool, not-true, or_parts, and_parts}
+use Rattle.std.proofs.lemmas.Bool.{cases_Bool, not-true, or_parts, and_parts, false≢true}
 use Rattle.cs_base.specs.Token.{Token}
 use Rattle.c99_tree.specs.Tree.{Forest, none, token, node}
 use Rattle.c99_tree.specs.declared.production.Label.{Label}
@@ -20,7 +20,6 @@ use Rattle.name_chains.specs.Members.{with_anonymous}
 use Rattle.scope_bind.specs.Roles.{role_of}
 use Rattle.scope_bind.specs.Walk.{facts_at, passed, declared_in, parameter_in, facts_after, left, walked}
 use Rattle.tree_laws.specs.TreesOfTexts.{has_token, has_body, has_form, have_forms}
-use Rattle.tree_laws.proofs.InLists.{false≢true}
 use Rattle.tree_laws.proofs.Noted.{hit, hits, role_hit, declares, is_parameter, told_name, noted, form_here, forms_under, forms_behind}
 use Rattle.tree_laws.proofs.Adding.{count_in, Adds, adds_none, either_adds, anonymous_adds, declared_adds, used_adds, object_adds, parameter_adds, tag_adds, enumeration_adds, member_adds, member_used_adds, designated_adds, label_adds, jump_to_adds}
 

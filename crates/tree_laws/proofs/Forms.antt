@@ -2,6 +2,7 @@
 use Rattle.std.proofs.Common.{ℕ, zero, suc, ◌+◌, ◌≡◌, ◌⊎◌, inl, inr, Bool, true, false, ◌&&◌, ◌||◌, not, if◌then◌else◌, List, [], ◌∷◌, Ok, Err, refl, sym, ap, subst, ◌∙◌}
 use Rattle.std.proofs.lemmas.Bool.{false≢true, and_parts, or_parts, or_from, and_from}
 use Rattle.std.specs.List.{list_all}
+use Rattle.cs_base.proofs.BoolLemmas.{and_none, or_met as implied}
 use Rattle.c99_tree.specs.Tree.{Forest, none, token, node, Node, node_of, leaf, inner, put, lone, collapsed}
 use Rattle.c99_tree.specs.declared.production.Label.{Label}
 use Rattle.c99_tree.specs.declared.production.Production.{Production}
@@ -18,7 +19,6 @@ use Rattle.tree_laws.specs.Shapes.{parts_all, goal_all, begins, takes, takes_two
 use Rattle.tree_laws.proofs.Walked.{After, after_if, IsKept, kept_step, kept_by_item, each_part}
 use Rattle.tree_laws.proofs.Growing.{begins_step, takes_step, two_step}
 use Rattle.tree_laws.proofs.Each.{each, AreGood, Keeps, keeps_within, keeps_step}
-use Rattle.tree_laws.proofs.NameClasses.{implied}
 
 -- ---- What the parts of a rule say
 
@@ -91,10 +91,6 @@ open_finished p n w is_open = by (collapses p)
     by : (c : Bool) → is_open_node (if c then collapsed n else n) ≡ false
     by true = open_lone n.under n w is_open
     by false = is_open
-
-and_none : (x y : Bool) → y ≡ false → (x && y) ≡ false
-and_none true y e = e
-and_none false y e = refl
 
 block_open : (l : Label) (under : Forest) → l.production ≡ Block → is_open_node (node_of l 0 under) ≡ false
 block_open l under e =

@@ -1,15 +1,15 @@
 -- What is noted stays noted, and a fault stays.
-use Rattle.std.proofs.Common.{ℕ, ◌≡◌, Bool, true, false, if◌then◌else◌, List, [], ◌∷◌, ◌++◌, Option, None, Some, inr, refl, sym, ap, subst, ◌∙◌, append_assoc}
+use Rattle.std.proofs.Common.{ℕ, ◌≡◌, true, false, List, [], ◌∷◌, ◌++◌, Option, None, inr, refl, sym, ap, subst, ◌∙◌, append_assoc}
 use Rattle.cs_base.specs.Token.{Token}
 use Rattle.c99_tree.specs.Tree.{Forest, none, token, node}
 use Rattle.c99_tree.specs.declared.production.Label.{Label}
-use Rattle.c_types.specs.Faults.{first_fault, comes_first}
 use Rattle.c_types.specs.Declarations.{Facts}
 use Rattle.name_chains.specs.Frames.{State}
 use Rattle.name_chains.specs.Entering.{entered}
 use Rattle.scope_bind.specs.Named.{Fault, Declaration, Occurrence}
 use Rattle.scope_bind.specs.Roles.{role_of}
 use Rattle.scope_bind.specs.Walk.{passed, left, walked}
+use Rattle.scope_bind.proofs.ScopeLemmas.{fault_some as not_clean}
 use Rattle.tree_laws.proofs.Lookups.{In}
 use Rattle.tree_laws.proofs.Moves.{name_noted, StaysTrue}
 use Rattle.tree_laws.proofs.Walking.{Places, facts_in_moved, facts_at_moved, facts_after_moved, walked_moved}
@@ -41,14 +41,6 @@ in_behind x (y ∷ xs) ys w = inr (in_behind x xs ys w)
 
 pub grown_in : (f g : Facts) → Grown f g → (o : Occurrence) → In o f.occurrences → In o g.occurrences
 grown_in f g a o w = subst (In o) (sym a.noted) (in_behind o a.more f.occurrences w)
-
-pub not_clean : (o : Option Fault) (x : Fault) → first_fault o x ≡ None → ⊥
-not_clean None x e = cc
-not_clean (Some y) x e = by (comes_first x y) e
-  where
-    by : (c : Bool) → (if c then Some x else Some y) ≡ None → ⊥
-    by true e = cc
-    by false e = cc
 
 module _ (ds : List Declaration) (os : List Occurrence) (o : Option Fault) where
   pub later_law : StaysTrue (λ i. Unit {0}) (IsLater ds os o)

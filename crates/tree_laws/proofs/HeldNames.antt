@@ -1,8 +1,7 @@
 -- Names are spelled as their entities, and names and faults stand in the text.
 use Rattle.std.proofs.Common.{ℕ, ◌+◌, ◌<◌, ◌≤◌, ◌≡◌, Bool, true, false, ◌&&◌, ◌||◌, not, if◌then◌else◌, ◌==◌, List, [], ◌∷◌, length, map, Option, None, Some, Ok, ◌⊎◌, inl, inr, refl, sym, ap, subst, ◌∙◌, arith}
 use Rattle.std.specs.Prelude.{IfSome, IfErr, All}
-use Rattle.std.proofs.lemmas.Slice.Eq.{bytes_eq-Decides}
-use Rattle.std.proofs.lemmas.Bool.{and_parts}
+use Rattle.std.proofs.lemmas.Bool.{and_parts, false≢true}
 use Rattle.cs_base.specs.Token.{Token}
 use Rattle.c99_tree.specs.Tree.{Forest, none, token, node, Node}
 use Rattle.c99_tree.specs.declared.production.Label.{Label}
@@ -10,15 +9,16 @@ use Rattle.c99_tree.specs.declared.production.Production.{Production}
 use Rattle.c99_tree.specs.declared.production.Production.TheVariants.{Enumerator, Declarator, Pdecl}
 use Rattle.scope_bind.specs.Named.{Fault, Occurrence, is_plain_role}
 use Rattle.scope_bind.specs.Causes.{index_of}
-use Rattle.c_types.specs.Declarations.{Facts, spelling_at, alike}
+use Rattle.c_types.specs.Declarations.{Facts, alike}
 use Rattle.name_chains.specs.Frames.{at_first, outermost}
 use Rattle.scope_bind.specs.Roles.{role_of}
 use Rattle.c_types.specs.Trees.{is_node, has_name, holds_name, name_below}
+use Rattle.c_types.proofs.TokenLemmas.{alike_itself, alike_on}
 use Rattle.scope_bind.specs.Bound.{Bound, name_of, bound_of, bound_unless, facts_of, binding_of}
 use Rattle.scope_bind.specs.declared.bound.Name.{Name}
 use Rattle.tree_laws.specs.TreesOfTexts.{token_count, AreFrom, begins_with_token, has_form, have_forms, is_name_place, names_pass, IsTreeOf}
 use Rattle.tree_laws.specs.BoundNames.{NamesAreSpelledAsTheirEntities, NamesStandInTheText, FaultsStandInTheText, BoundNamesPass}
-use Rattle.tree_laws.proofs.InLists.{false≢true, In, all_mapped, all_reversed}
+use Rattle.tree_laws.proofs.InLists.{In, all_mapped, all_reversed}
 use Rattle.tree_laws.proofs.Holding.{GoesOn, Holds}
 use Rattle.tree_laws.proofs.Noted.{declares, is_parameter, told_name, Within, told_within, form_here, forms_under, forms_behind}
 use Rattle.tree_laws.proofs.HeldSteps.{Tokens, walked_held}
@@ -61,14 +61,6 @@ module _ (toks : List Token) (S : ℕ → Type 0) (R : List Occurrence → ℕ �
   fault_held tree w = fault_case tree.under (facts_of toks tree.under) (facts_of toks tree.under).fault (facts_held tree.under w).fault
 
 -- ---- Spellings
-
-alike_itself : (toks : List Token) (i : ℕ) → alike toks i i ≡ true
-alike_itself toks i = (bytes_eq-Decides (spelling_at toks i) (spelling_at toks i)).1 refl
-
-alike_on : (toks : List Token) (i j k : ℕ) → alike toks i j ≡ true → alike toks j k ≡ true → alike toks i k ≡ true
-alike_on toks i j k e f =
-    (bytes_eq-Decides (spelling_at toks i) (spelling_at toks k)).1
-    ((bytes_eq-Decides (spelling_at toks i) (spelling_at toks j)).0 e ∙ (bytes_eq-Decides (spelling_at toks j) (spelling_at toks k)).0 f)
 
 abbrev any_token : ℕ → Type 0
 any_token i = Unit {0}

@@ -3,6 +3,7 @@ use Rattle.std.proofs.Common.{ℕ, Bool, true, false, ◌&&◌, ◌||◌, not, i
 use Rattle.std.specs.Prelude.{IfSome, is_some, filter}
 use Rattle.std.specs.List.{All}
 use Rattle.std.proofs.lemmas.List.Elements.{All-head, All-tail}
+use Rattle.std.proofs.lemmas.Bool.{false≢true}
 use Rattle.std.specs.Option.{option_map_or}
 use Rattle.cs_base.specs.Token.{Token}
 use Rattle.c99_tree.specs.Tree.{Forest}
@@ -17,7 +18,7 @@ use Rattle.name_chains.specs.Members.{member_declaration, is_found_in, lifted, f
 use Rattle.scope_bind.specs.Labels.{label_declaration, with_label, jump_to, with_jumps, with_labels}
 use Rattle.name_chains.specs.Initializers.{designated_facts}
 use Rattle.tree_laws.proofs.Unnamed.{found_named}
-use Rattle.tree_laws.proofs.InLists.{false≢true, In, all_reversed, all_filtered}
+use Rattle.tree_laws.proofs.InLists.{In, all_reversed, all_filtered}
 use Rattle.tree_laws.proofs.Holding.{name_noted, GoesOn, Named, Holds, noted_still, fault_held, occurrence_held, declaration_held, silent_held, begun_held, looked_up_held}
 
 -- one fact of what is found follows from another

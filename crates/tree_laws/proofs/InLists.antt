@@ -1,12 +1,9 @@
 -- Elements of lists, and what is found among them.
-use Rattle.std.proofs.Common.{◌≡◌, Bool, true, false, ◌&&◌, cond, List, [], ◌∷◌, ◌++◌, map, reverse, Option, Some, ◌⊎◌, inl, inr, refl}
+use Rattle.std.proofs.Common.{◌≡◌, Bool, true, false, cond, List, [], ◌∷◌, ◌++◌, map, reverse, Option, Some, ◌⊎◌, inl, inr, refl}
 use mathlib.Core.List.{reverse-cons}
 use Rattle.std.specs.Prelude.{find, filter}
 use Rattle.std.specs.List.{All}
 use Rattle.std.proofs.lemmas.List.Elements.{All-nil, All-cons, All-head, All-tail, All-push, All-same}
-
-pub false≢true : false ≡ true → ⊥
-false≢true e = cc
 
 abbrev pub In : {X : Type 0} → X → List X → Type 0
 In x [] = ⊥

@@ -84,3 +84,5 @@ mod Asked
 mod Lists
 mod Walk
 mod Binding
+pub mod Below
+pub mod TokenEnds

@@ -2,11 +2,12 @@
 use Rattle.std.proofs.Common.{ℕ, ◌≤◌, ◌≡◌, true, ◌==◌, if◌then◌else◌, List, [], ◌∷◌, length, map, Option, None, Some, inl, inr, refl, sym, ap, subst, ◌∙◌}
 use Rattle.std.specs.Prelude.{find}
 use Rattle.std.specs.Option.{option_map, option_map_or, option_and_then}
-use Rattle.std.proofs.lemmas.Bool.{cases_Bool, eqb-true, and_from}
+use Rattle.std.proofs.lemmas.Bool.{cases_Bool, eqb-true, and_from, false≢true}
 use Rattle.std.proofs.lemmas.List.{reverse-reverse}
 use Rattle.std.proofs.lemmas.Option.{same_Some}
 use Rattle.std.proofs.lemmas.Slice.Eq.{bytes_eq-Decides}
 use Rattle.cs_base.specs.Token.{Token}
+use Rattle.cs_base.proofs.BoolLemmas.{if_false, if_is as if_true}
 use Rattle.c99_tree.specs.Tree.{Node}
 use Rattle.c_types.specs.declared.entity.Linkage.TheVariants.{Absent}
 use Rattle.scope_bind.specs.Named.{Occurrence, Declaration, ordinary}
@@ -16,13 +17,10 @@ use Rattle.scope_bind.specs.Walk.{walked}
 use Rattle.scope_bind.specs.Bound.{Bound, declaration_at, name_of, names_of, facts_of, binding_of}
 use Rattle.scope_bind.specs.Names.{name_at, entity_at, linkage_at}
 use Rattle.scope_bind.specs.declared.bound.Name.{Name}
-use Rattle.tree_laws.specs.TreesOfTexts.{IsTreeOf}
 use Rattle.tree_laws.specs.BoundNames.{Binds, OneLinkedName}
 use Rattle.tree_laws.proofs.Unnamed.{found_named}
-use Rattle.tree_laws.proofs.Lookups.{false≢true, In, found_in, found_passes}
+use Rattle.tree_laws.proofs.Lookups.{In, found_in, found_passes}
 use Rattle.tree_laws.proofs.Renaming.{Good, Kept, IsLinked}
-use Rattle.tree_laws.proofs.RenamedNames.{if_true}
-use Rattle.tree_laws.proofs.RenamedObjects.{if_false}
 use Rattle.tree_laws.proofs.RenamedWalk.{no_fault, Follows, walked_same}
 use Rattle.tree_laws.proofs.InLists.{In as Among}
 use Rattle.tree_laws.proofs.HeldNames.{binding_is, occurrences_alike}

@@ -3,6 +3,8 @@ use Rattle.std.proofs.Common.{ℕ, ◌+◌, ◌≡◌, Bool, true, false, ◌&&�
 use Rattle.std.specs.Option.{option_or}
 use Rattle.std.proofs.lemmas.Bool.{and_parts, not-true, false≢true}
 use Rattle.std.proofs.lemmas.List.{append-nil}
+use Rattle.cs_base.proofs.OptionLemmas.{option_or-None as or_none}
+use Rattle.cs_base.proofs.BoolLemmas.{chosen}
 use Rattle.c99_tree.specs.Tree.{Forest, none, token, node}
 use Rattle.c99_tree.specs.declared.production.Label.{Label}
 use Rattle.c99_tree.specs.declared.production.Production.{Production}
@@ -14,7 +16,7 @@ use Rattle.tree_laws.specs.Narrowed.{renumbered, is_member, is_line, spread_if, 
 use Rattle.tree_laws.proofs.Standing.{within, kids, is_good, is_line_body, formed}
 use Rattle.tree_laws.proofs.StandardSteps.{labelled}
 use Rattle.tree_laws.proofs.Narrowing.{IsNode, narrows}
-use Rattle.tree_laws.proofs.Asked.{at-same, first_token-same, last_token-same, name_below-same, or_none, below_node, node_no_line}
+use Rattle.tree_laws.proofs.Asked.{at-same, first_token-same, last_token-same, name_below-same, below_node, node_no_line}
 
 -- no line of members stands among the children
 abbrev pub apart : Forest → Bool
@@ -99,10 +101,6 @@ kids_apart p (token i rest) k h = kids_apart p rest k h
 kids_apart p (node l first under rest) k h =
     let parts = and_parts (within p l.production) (kids (within p) rest) h in
     rw (k l.production parts.0, kids_apart p rest k parts.1) refl
-
-chosen : {A : Type 0} (b : Bool) (x y z : A) → (b ≡ true → x ≡ y) → (if b then x else z) ≡ (if b then y else z)
-chosen true x y z e = e refl
-chosen false x y z e = refl
 
 abbrev CallsSame : Forest → Forest → Type 0
 CallsSame g f = calls_in g ≡ calls_in f

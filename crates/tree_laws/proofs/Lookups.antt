@@ -1,9 +1,9 @@
 -- Look-ups in a list of declarations, before and after a renaming.
-use Rattle.std.proofs.Common.{ℕ, ◌≡◌, Bool, true, false, ◌&&◌, ◌||◌, cond, List, [], ◌∷◌, Option, None, Some, ◌⊎◌, inl, inr, refl, sym, subst, ◌∙◌}
+use Rattle.std.proofs.Common.{ℕ, ◌≡◌, Bool, true, false, ◌&&◌, cond, List, [], ◌∷◌, Option, None, Some, ◌⊎◌, inl, inr, refl, sym, subst, ◌∙◌}
 use Rattle.std.specs.Prelude.{find, IfSome}
 use Rattle.std.specs.List.{list_any}
 use Rattle.std.proofs.lemmas.Slice.Eq.{bytes_eq-Decides}
-use Rattle.std.proofs.lemmas.Bool.{and_parts, and_from, or_parts, or_from}
+use Rattle.std.proofs.lemmas.Bool.{and_parts, and_from, or_parts, or_from, false≢true}
 use Rattle.cs_base.specs.Token.{Token}
 use Rattle.scope_bind.specs.Named.{Space, Declaration}
 use Rattle.c_types.specs.Declarations.{is_space, Facts, spelling_at, alike, is_named, looked_up}
@@ -11,9 +11,6 @@ use Rattle.tree_laws.specs.RenamedNames.{StaysApart}
 use Rattle.tree_laws.proofs.Unnamed.{is_unnamed, found_named}
 
 -- ---- Tests
-
-pub false≢true : false ≡ true → ⊥
-false≢true e = cc
 
 -- what follows from a test that fails where another one holds
 pub not_true : (q p : Bool) → (q ≡ true → p ≡ true) → p ≡ false → q ≡ false
@@ -95,10 +92,6 @@ alike_same toks i j k e f =
     let x : spelling_at toks i ≡ spelling_at toks k = (bytes_eq-Decides (spelling_at toks i) (spelling_at toks k)).0 e in
     let y : spelling_at toks j ≡ spelling_at toks k = (bytes_eq-Decides (spelling_at toks j) (spelling_at toks k)).0 f in
     (bytes_eq-Decides (spelling_at toks i) (spelling_at toks j)).1 (x ∙ sym y)
-
-pub alike_turned : (toks : List Token) (i j : ℕ) → alike toks i j ≡ true → alike toks j i ≡ true
-alike_turned toks i j e =
-    (bytes_eq-Decides (spelling_at toks j) (spelling_at toks i)).1 (sym ((bytes_eq-Decides (spelling_at toks i) (spelling_at toks j)).0 e))
 
 and3_mono : (s x y t : Bool) → (y ≡ true → x ≡ true) → ((s && y) && t) ≡ true → ((s && x) && t) ≡ true
 and3_mono true true y t sub h = (and_parts y t h).1

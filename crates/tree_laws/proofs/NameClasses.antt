@@ -3,13 +3,14 @@ use Rattle.std.proofs.Common.{ℕ, ◌≡◌, Bool, true, false, ◌&&◌, ◌||
 use Rattle.std.specs.List.{list_all}
 use Rattle.std.specs.Option.{option_map_or}
 use Rattle.std.specs.Str.{bytes_eq}
-use Rattle.std.proofs.lemmas.Bool.{false≢true, and_parts}
+use Rattle.std.proofs.lemmas.Bool.{and_parts}
 use Rattle.std.proofs.lemmas.List.Folds.{list_all-append}
 use Rattle.c99_grammar.specs.declared.dialects.Dialect.{Dialect}
 use Rattle.c99_grammar.specs.declared.dialects.Dialect.TheVariants.{Iso, Gnu}
 use Rattle.cs_base.specs.Token.{Token}
 use Rattle.cs_base.specs.declared.tokens.Kind.{Kind}
 use Rattle.cs_base.specs.declared.tokens.Kind.TheVariants as kind
+use Rattle.cs_base.proofs.BoolLemmas.{or_met as implied}
 use Rattle.c99_grammar.specs.declared.classes.Class.TheVariants.{Identifier}
 use Rattle.c99_grammar.specs.Classes.{among}
 use Rattle.c99_grammar.specs.Spellings.{Spelled, keywords, keywords_added, words_of_gnu, spellings_of_gnu, gnu_keywords, punctuators}
@@ -42,10 +43,6 @@ all_classes P =
 -- no token but an identifier has one of these classes
 abbrev pub only_names : List Class → Bool
 only_names classes = all_classes (is_fine classes)
-
-pub implied : (c d : Bool) → (not c || d) ≡ true → c ≡ true → d ≡ true
-implied true d h e = h
-implied false d h e = absurd (false≢true e)
 
 -- what is true of the classes of all words of GNU C is true of those of the keywords of a dialect
 words_fit : (P : Class → Bool) → list_all (λ w. P w.1) gnu_keywords ≡ true → (d : Dialect) → list_all (λ w. P w.1) (grammar d).keywords ≡ true

@@ -3,6 +3,7 @@ use Rattle.std.proofs.Common.{ℕ, zero, suc, ◌+◌, ◌%◌, ◌≡◌, Bool,
 use Rattle.std.proofs.lemmas.Bool.{and_parts, cases_eq, eq-eqb, ne_eqb, and_from, or_left, or_right}
 use Rattle.c99_grammar.specs.declared.dialects.Dialect.{Dialect}
 use Rattle.cs_base.specs.Token.{Token}
+use Rattle.cs_base.proofs.BoolLemmas.{or_met as implied}
 use Rattle.c99_tree.specs.Tree.{Forest, none, token, node, Node, leaf, inner, put, count_of}
 use Rattle.c99_tree.specs.declared.production.Label.{Label}
 use Rattle.c99_tree.specs.declared.production.Production.{Production}
@@ -17,7 +18,7 @@ use Rattle.scope_bind.specs.Roles.{role_of}
 use Rattle.c_types.specs.Trees.{is_node, has_name}
 use Rattle.tree_laws.specs.TreesOfTexts.{is_name_place, pass_at}
 use Rattle.tree_laws.proofs.Walked.{After, with_token, after_if}
-use Rattle.tree_laws.proofs.NameClasses.{only_names, name_is, implied}
+use Rattle.tree_laws.proofs.NameClasses.{only_names, name_is}
 
 -- ---- Places among children
 

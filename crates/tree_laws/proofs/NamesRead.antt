@@ -13,6 +13,7 @@ use Rattle.c99_grammar.specs.Items.{Item, Test, Action, Alternative}
 use Rattle.c99_grammar.specs.Standard.{grammar, iso}
 use Rattle.c99_read.specs.State.{State, base_at, collapses, finished, acted, opened, closed, is_identifier}
 use Rattle.c99_read.specs.Reading.{produce, repeat, Step, and_then, may, step, alternative, pick, read_within, steps_for, whole, at_first, tree_of, read_of}
+use Rattle.c99_read.proofs.ReadLemmas.{opened_text}
 use Rattle.name_chains.specs.Frames.{outermost}
 use Rattle.tree_laws.specs.TreesOfTexts.{is_name_place, pass_at, names_pass}
 use Rattle.tree_laws.proofs.Walked.{After, after_if, IsKept, fit_from, each_part, kept_step, kept_within, kept_by_item}
@@ -32,10 +33,6 @@ closed_text p n s s' e = e
 
 abbrev unit_label : Label
 unit_label = (outermost 0).label
-
-opened_text : (p : Production) (n : ℕ) (s : State) → (opened p n s).toks ≡ s.toks
-unfolding opened
-opened_text p n s = refl
 
 one_row : (d : Dialect) → length ((grammar d).table TranslationUnit) ≡ 1
 one_row (Iso s) = refl

@@ -1,6 +1,7 @@
 -- What is so of narrowed trees, by induction over trees as C11 has them.
 use Rattle.std.proofs.Common.{ℕ, ◌≡◌, Bool, true, false, ◌&&◌, ◌||◌, not, ◌==◌, refl, sym, ap, subst, ◌∙◌}
 use Rattle.std.proofs.lemmas.Bool.{and_parts, eqb-true, false≢true}
+use Rattle.cs_base.proofs.BoolLemmas.{or_met as lined, not_and_true as no_lone_of}
 use Rattle.c99_tree.specs.Tree.{Forest, none, token, node}
 use Rattle.c99_tree.specs.declared.production.Label.{Label}
 use Rattle.c99_tree.specs.declared.production.Production.{Production}
@@ -45,14 +46,6 @@ line_is l e =
 
 pub label_is : (l : Label) (p : Production) → l.production ≡ p → l ≡ labelled p l.alternative
 label_is l p e = ap (λ q. labelled q l.alternative) e
-
-lined : (b c : Bool) → (not b || c) ≡ true → b ≡ true → c ≡ true
-lined true c h e = h
-lined false c h e = absurd (false≢true e)
-
-no_lone_of : (b : Bool) → not (b && true) ≡ true → b ≡ false
-no_lone_of true e = absurd (false≢true e)
-no_lone_of false e = refl
 
 module _ (P : Forest → Forest → Type 0)
     (at_none : P none none)

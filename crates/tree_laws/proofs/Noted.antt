@@ -1,7 +1,9 @@
 -- How often a token may be noted as a name, by its place in the tree: once at most.
 use Rattle.std.proofs.Common.{ℕ, ◌+◌, ◌<◌, ◌≤◌, ◌≡◌, Bool, true, false, ◌&&◌, ◌||◌, if◌then◌else◌, ◌==◌, Option, None, Some, ◌⊎◌, inl, inr, refl, sym, ap, subst, ◌∙◌, arith}
 use Rattle.std.specs.Prelude.{IfSome, nat_lt}
-use Rattle.std.proofs.lemmas.Bool.{cases_Bool, cases_eq, ne_eqb, ltb-true, ltb-false, and_parts}
+use Rattle.std.proofs.lemmas.Bool.{cases_Bool, cases_eq, ne_eqb, ltb-true, ltb-false, and_parts, false≢true}
+use Rattle.cs_base.proofs.BoolLemmas.{bit_at_most}
+use Rattle.cs_base.proofs.OptionLemmas.{some_if}
 use Rattle.c99_tree.specs.Tree.{Forest, none, token, node}
 use Rattle.c99_tree.specs.declared.production.Label.{Label}
 use Rattle.c99_tree.specs.declared.production.Production.{Production}
@@ -11,7 +13,6 @@ use Rattle.scope_bind.specs.Named.{Role, is_plain_role}
 use Rattle.c_types.specs.Trees.{has_name, holds_name, name_below}
 use Rattle.scope_bind.specs.Roles.{role_of}
 use Rattle.tree_laws.specs.TreesOfTexts.{token_count, AreFrom, begins_with_token, has_form, have_forms}
-use Rattle.tree_laws.proofs.InLists.{false≢true}
 
 -- ---- Counting
 
@@ -26,11 +27,7 @@ hits t (Some x) = hit t x
 pub hit_no : (t x : ℕ) → (x ≡ t → ⊥) → hit t x ≡ 0
 hit_no t x e = ap (λ c. if c then 1 else 0) (ne_eqb x t e)
 
-bit_at_most : (c : Bool) → (if c then 1 else 0) ≤ 1
-bit_at_most true = omega arith
-bit_at_most false = omega arith
-
-hit_at_most : (t x : ℕ) → hit t x ≤ 1
+pub hit_at_most : (t x : ℕ) → hit t x ≤ 1
 hit_at_most t x = bit_at_most (x == t)
 
 -- ---- What may note a token
@@ -69,14 +66,14 @@ noted t l k (node m first under rest) =
 abbrev Outside : ℕ → ℕ → ℕ → Type 0
 Outside t j n = j ≤ t → t < j + n → ⊥
 
-role_case : (c : Bool) (t i : ℕ) → (i ≡ t → ⊥) → (if c then 0 else hit t i) ≡ 0
+pub role_case : (c : Bool) (t i : ℕ) → (i ≡ t → ⊥) → (if c then 0 else hit t i) ≡ 0
 role_case true t i h = refl
 role_case false t i h = hit_no t i h
 
 role_no : (r : Role) (t i : ℕ) → (i ≡ t → ⊥) → role_hit r t i ≡ 0
 role_no r t i h = role_case (is_plain_role r) t i h
 
-role_most : (c : Bool) (t i : ℕ) → (if c then 0 else hit t i) ≤ 1
+pub role_most : (c : Bool) (t i : ℕ) → (if c then 0 else hit t i) ≤ 1
 role_most true t i = omega arith
 role_most false t i = hit_at_most t i
 
@@ -120,7 +117,7 @@ told_within Pdecl q m under j w form = if_within j (token_count under) (is_param
 told_within Enumerator q m under j w form = enumerator_within under j form
 told_within _ q m under j w form = tt
 
-outside_no : (t j n : ℕ) (o : Option ℕ) → Outside t j n → IfSome o (Within j n) → hits t o ≡ 0
+pub outside_no : (t j n : ℕ) (o : Option ℕ) → Outside t j n → IfSome o (Within j n) → hits t o ≡ 0
 outside_no t j n None out h = refl
 outside_no t j n (Some x) out h = hit_no t x (λ e. out (omega (arith, h.0, e)) (omega (arith, h.1, e)))
 
@@ -163,14 +160,14 @@ named_role Direct a k h = refl
 named_role Pdirect a k h = refl
 named_role _ a k h = absurd (false≢true h)
 
-declares_none : (q : Production) (o : Option ℕ) → holds_name q ≡ true → (if declares q then o else None) ≡ None
+pub declares_none : (q : Production) (o : Option ℕ) → holds_name q ≡ true → (if declares q then o else None) ≡ None
 declares_none Declarator o h = refl
 declares_none Direct o h = refl
 declares_none Pdecl o h = refl
 declares_none Pdirect o h = refl
 declares_none _ o h = absurd (false≢true h)
 
-parameter_none : (q : Production) (o : Option ℕ) → holds_name q ≡ true → (if is_parameter q then o else None) ≡ None
+pub parameter_none : (q : Production) (o : Option ℕ) → holds_name q ≡ true → (if is_parameter q then o else None) ≡ None
 parameter_none Declarator o h = refl
 parameter_none Direct o h = refl
 parameter_none Pdecl o h = refl
@@ -238,10 +235,6 @@ hidden t j k l (node m first under rest) w forms holds name = elim (hidden_node 
 
 -- ---- Once at most
 
-some_if : (c : Bool) (o : Option ℕ) (t : ℕ) → (if c then o else None) ≡ Some t → o ≡ Some t
-some_if true o t e = e
-some_if false o t e = absurd cc
-
 enumerator_apart : (t j : ℕ) (m : Label) (under : Forest) → m.production ≡ Enumerator → j ≡ t → AreFrom j under → have_forms under ≡ true
     → begins_with_token under ≡ true → noted t m 0 under ≡ 0
 enumerator_apart t j m none p e w forms begins = absurd (false≢true begins)
@@ -261,7 +254,7 @@ told_apart Enumerator q t first j m under p e w forms form told =
     let same : first ≡ t = cc in enumerator_apart t j m under p (sym e ∙ same) w forms form
 told_apart _ q t first j m under p e w forms form told = absurd cc
 
-told_once : (t n : ℕ) (o : Option ℕ) → n ≤ 1 → (o ≡ Some t → n ≡ 0) → hits t o + n ≤ 1
+pub told_once : (t n : ℕ) (o : Option ℕ) → n ≤ 1 → (o ≡ Some t → n ≡ 0) → hits t o + n ≤ 1
 told_once t n None most apart = omega (arith, most)
 told_once t n (Some x) most apart = elim (cases_eq x t) [
   | inl same ↦ omega (arith, hit_at_most t x, apart (ap (λ y. Some y) same))

@@ -1,7 +1,8 @@
 -- Lists and bodies stand in the order of the tokens that they are called by.
 use Rattle.std.proofs.Common.{ℕ, ◌+◌, ◌<◌, ◌≤◌, ◌≡◌, Bool, true, false, ◌&&◌, ◌||◌, not, if◌then◌else◌, List, [], ◌∷◌, ◌++◌, Option, None, Some, ◌⊎◌, inl, inr, refl, sym, ap, subst, ◌∙◌, arith}
 use Rattle.std.specs.Prelude.{IfSome}
-use Rattle.std.proofs.lemmas.Bool.{and_parts, not-true, or_parts}
+use Rattle.std.proofs.lemmas.Bool.{and_parts, or_parts, false≢true}
+use Rattle.cs_base.proofs.BoolLemmas.{declarator_form}
 use Rattle.c99_tree.specs.Tree.{Forest, none, token, node}
 use Rattle.c99_tree.specs.declared.production.Label.{Label}
 use Rattle.c99_tree.specs.declared.production.Production.{Production}
@@ -12,7 +13,6 @@ use Rattle.c_types.specs.declared.lists.Range.{Range}
 use Rattle.c_types.specs.Trees.{is_node, is_at, name_below, first_token, last_token}
 use Rattle.c_types.specs.Lists.{list_of, call_in, calls_in, body_of, tail_of, definition_in, bodies_in, nearest_of, own_list, declarator_in, is_declaring, lists_in}
 use Rattle.tree_laws.specs.TreesOfTexts.{token_count, AreFrom, has_token, has_body, has_declaring, has_form, have_forms, have_plain_declarators}
-use Rattle.tree_laws.proofs.InLists.{false≢true}
 use Rattle.tree_laws.proofs.Noted.{Within, name_within, form_here, forms_under, forms_behind}
 use Rattle.tree_laws.proofs.Climbing.{Climbs, climbs_lower, climbs_append, Laid, laid_append}
 
@@ -98,10 +98,6 @@ lists_none (node l first under rest) h =
     ap (λ x. (x ++ lists_in under) ++ lists_in rest) (if_none (is_declaring l) (declarator_in under) ((or_parts (is_declaring l) (has_declaring under || has_declaring rest) h).0))
     ∙ (ap (λ x. x ++ lists_in rest) (lists_none under ((or_parts (has_declaring under) (has_declaring rest) more).0))
     ∙ lists_none rest ((or_parts (has_declaring under) (has_declaring rest) more).1))
-
-declarator_form : (c d : Bool) → (not c || not d) ≡ true → c ≡ true → d ≡ false
-declarator_form true d form same = not-true d form
-declarator_form false d form same = absurd (false≢true same)
 
 -- what is so of the first child, below it and behind it
 plain_parts : (l : Label) (first : ℕ) (under rest : Forest) → have_plain_declarators (node l first under rest) ≡ true

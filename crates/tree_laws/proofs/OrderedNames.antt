@@ -2,7 +2,7 @@
 use Rattle.std.proofs.Common.{ℕ, ◌+◌, ◌<◌, ◌≤◌, ◌≡◌, ◌≢◌, Bool, false, if◌then◌else◌, List, [], ◌∷◌, length, map, reverse, refl, sym, ap, subst, ◌∙◌, inl, inr, arith}
 use mathlib.Core.List.{reverse-cons}
 use Rattle.std.specs.Prelude.{filter, All, AllPairs}
-use Rattle.std.proofs.lemmas.Bool.{eq-eqb}
+use Rattle.std.proofs.lemmas.Bool.{eq-eqb, false≢true}
 use Rattle.std.proofs.lemmas.List.Quantifiers.{all_pairs_push}
 use Rattle.cs_base.specs.Token.{Token}
 use Rattle.c99_tree.specs.Tree.{Node}
@@ -16,7 +16,7 @@ use Rattle.c_types.specs.Lists.{calls_in, bodies_in, lists_in}
 use Rattle.scope_bind.specs.Bound.{Bound, name_of, names_of, is_of_function, facts_of}
 use Rattle.tree_laws.specs.TreesOfTexts.{token_count, IsTreeOf}
 use Rattle.tree_laws.specs.BoundNames.{EachTokenIsOneName, ParameterListsAreInOrder, ArgumentListsAreInOrder, IsBody, BodiesStandInTheText, BodiesAreApart}
-use Rattle.tree_laws.proofs.InLists.{false≢true, In, all_mapped, all_reversed}
+use Rattle.tree_laws.proofs.InLists.{In, all_mapped, all_reversed}
 use Rattle.tree_laws.proofs.HeldNames.{binding_is}
 use Rattle.tree_laws.proofs.Noted.{hit, noted_once}
 use Rattle.tree_laws.proofs.Adding.{count_in}

@@ -6,6 +6,7 @@ use Rattle.c99_tree.specs.declared.production.Label.{Label}
 use Rattle.c99_tree.specs.declared.production.Production.{Production}
 use Rattle.c99_tree.specs.declared.production.Production.TheVariants.{ExtRest, FunBody, InitDecl, Enumerator, Declarator, Param, Pdecl, Block, Suffix, Sub, Statement}
 use Rattle.scope_bind.specs.Named.{Scope}
+use Rattle.scope_bind.proofs.ScopeLemmas.{deeper as scope_deeper}
 use Rattle.c_types.specs.Trees.{is_list, last_token, name_below}
 use Rattle.name_chains.specs.Entering.{inner, is_scoped, scope_in}
 use Rattle.tree_laws.proofs.Private.{Declaration}
@@ -157,23 +158,6 @@ module _ (q : Entry → Bool) (P : Scope → Type 0)
       outlined_deaf under (begun l first under o) c scope ∙ begun_deaf l.production l first under o.kept o.scope o.entries scope
 
 -- ---- Scopes
-
--- a node has the scope around it, or one more
-pub scope_deeper : (p : Production) (l : Label) (under : Forest) (c : Scope) → c.depth ≤ (scope_in p l under c).depth
-scope_deeper Block l under c = omega arith
-scope_deeper FunBody l under c = omega arith
-scope_deeper Sub l under c = omega arith
-scope_deeper Suffix l under c = by (is_list l)
-  where
-    by : (b : Bool) → c.depth ≤ (if b then inner c (last_token under 0) else c).depth
-    by true = omega arith
-    by false = omega arith
-scope_deeper Statement l under c = by (is_scoped l.alternative)
-  where
-    by : (b : Bool) → c.depth ≤ (if b then inner c (last_token under 0 + 1) else c).depth
-    by true = omega arith
-    by false = omega arith
-scope_deeper _ l under c = omega arith
 
 pub deeper_closed : (d : ℕ) (f : Forest) → Closed (λ c. d < c.depth) f
 deeper_closed d none = tt

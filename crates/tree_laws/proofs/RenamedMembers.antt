@@ -4,8 +4,9 @@ use Rattle.std.specs.Prelude.{IfSome, is_some, filter}
 use Rattle.std.specs.List.{All}
 use Rattle.std.proofs.lemmas.List.Elements.{All-head, All-tail}
 use Rattle.std.specs.Option.{option_map_or}
-use Rattle.std.proofs.lemmas.Bool.{false_from_ne_true, not-false}
+use Rattle.std.proofs.lemmas.Bool.{false_from_ne_true, not-false, false≢true}
 use Rattle.cs_base.specs.Token.{Token}
+use Rattle.cs_base.proofs.BoolLemmas.{if_is as if_true}
 use Rattle.c99_tree.specs.Tree.{Forest}
 use Rattle.scope_bind.specs.Named.{Space, Declaration, Body, Frame, undeclared, no_member, no_label, redeclared, tag_redefined, designator_after_elision, tags, members, labels}
 use Rattle.c_types.specs.declared.entity.Linkage.TheVariants.{Absent}
@@ -16,10 +17,9 @@ use Rattle.c_types.specs.Tags.{number_in, renumbered, is_same_tag, tag_entity, i
 use Rattle.name_chains.specs.Members.{member_declaration, is_found_in, lifted, found_of, unnamed_declaration, with_silent, with_lifted, with_anonymous, is_known, with_member, member_at, member_used_as, member_used}
 use Rattle.scope_bind.specs.Labels.{label_declaration, with_label, jump_to, with_jumps, with_labels}
 use Rattle.tree_laws.proofs.Unnamed.{found_named, member_apart}
-use Rattle.tree_laws.proofs.Lookups.{false≢true, In}
+use Rattle.tree_laws.proofs.Lookups.{In}
 use Rattle.tree_laws.proofs.InLists.{In as AnElement, all_reversed, all_filtered}
 use Rattle.tree_laws.proofs.Renaming.{Good, Kept, occurrence, kept_silent, fault_back, fault_goes, fault_none, occurrence_back, occurrence_good, declaration_back, declaration_good, kept_declaration, kept_occurrence, joins_unlinked, unlinked_ordinary, found_again}
-use Rattle.tree_laws.proofs.RenamedNames.{if_true}
 
 no_some : {X : Type 0} (P : X → Type 0) (r : Option X) → is_some r ≡ false → IfSome r P
 no_some P None e = tt

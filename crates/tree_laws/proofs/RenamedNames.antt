@@ -2,21 +2,16 @@
 use Rattle.std.proofs.Common.{ℕ, ◌≡◌, Bool, true, false, ◌&&◌, ◌||◌, not, if◌then◌else◌, ◌==◌, List, Option, None, Some, inl, inr, refl, sym, ap, subst, ◌∙◌}
 use Rattle.std.specs.Prelude.{IfSome}
 use Rattle.std.specs.Option.{option_map_or}
-use Rattle.std.proofs.lemmas.Bool.{cases_Bool, not-false, and_parts, and_from}
+use Rattle.std.proofs.lemmas.Bool.{cases_Bool, not-false, and_parts, and_from, false≢true}
 use Rattle.cs_base.specs.Token.{Token}
+use Rattle.cs_base.proofs.BoolLemmas.{if_is as if_true, not_both as true≢false}
 use Rattle.c_types.specs.declared.entity.Linkage.{Linkage}
 use Rattle.scope_bind.specs.Named.{Declaration, Declared, Scope, undeclared, redeclared, mixed_linkage, ordinary}
 use Rattle.c_types.specs.Declarations.{is_space, Facts, has_linkage, is_linkage, is_live, with_fault, with_declaration, alike, is_named, looked_up, visible, in_scope, linked, is_mixed}
+use Rattle.c_types.proofs.TokenLemmas.{alike_back as alike_turned}
 use Rattle.scope_bind.specs.Ordinary.{is_again, linked_entity, entity_of, is_listed, declaration_of, declared_faults, declared_after, declared, used_as, used}
-use Rattle.tree_laws.proofs.Lookups.{StandApart, false≢true, In, found_passes, found_in, none_passes, any_same, alike_same, alike_turned, named_apart}
+use Rattle.tree_laws.proofs.Lookups.{StandApart, In, found_passes, found_in, none_passes, any_same, alike_same, named_apart}
 use Rattle.tree_laws.proofs.Renaming.{Good, Kept, IsLinked, Joins, fault_back, fault_goes, fault_none, occurrence_back, occurrence_good, declaration_back, declaration_good, kept_declaration, kept_occurrence, stand_apart, found_again}
-
-pub if_true : {A : Type 0} (c : Bool) (x y : A) → c ≡ true → (if c then x else y) ≡ x
-if_true true x y e = refl
-if_true false x y e = absurd (false≢true e)
-
-true≢false : (c : Bool) → c ≡ true → c ≡ false → ⊥
-true≢false c e f = false≢true (sym f ∙ e)
 
 -- ---- The entity that a declaration is given
 

@@ -1,8 +1,9 @@
 -- Objects, functions, parameters and constants under a renaming: their linkage stays (ISO/IEC 9899:1999, 6.2.2).
 use Rattle.std.proofs.Common.{ℕ, ◌≡◌, Bool, true, false, ◌&&◌, ◌||◌, not, if◌then◌else◌, ◌==◌, List, Option, None, Some, inl, inr, refl, sym, ap, subst, ◌∙◌}
 use Rattle.std.specs.Prelude.{IfSome}
-use Rattle.std.proofs.lemmas.Bool.{cases_Bool, and_parts, and_from}
+use Rattle.std.proofs.lemmas.Bool.{cases_Bool, and_parts, and_from, false≢true}
 use Rattle.cs_base.specs.Token.{Token}
+use Rattle.cs_base.proofs.BoolLemmas.{if_false, if_is as if_true}
 use Rattle.c99_tree.specs.Tree.{Forest}
 use Rattle.c_types.specs.declared.entity.Linkage.{Linkage}
 use Rattle.c_types.specs.declared.entity.Linkage.TheVariants.{External, Internal, Absent}
@@ -12,13 +13,9 @@ use Rattle.scope_bind.specs.Named.{Declaration, Declared, Frame, ordinary}
 use Rattle.c_types.specs.Declarations.{Facts, has_linkage, is_linkage, is_live, alike, is_named, visible, in_scope, linked, is_mixed}
 use Rattle.scope_bind.specs.Linkage.{prior_linkage, follows_prior, own_linkage}
 use Rattle.scope_bind.specs.Ordinary.{entity_of, declared, declaration_of, is_listed, declared_faults, new_linkage, new_object, with_object, new_parameter, with_parameter}
-use Rattle.tree_laws.proofs.Lookups.{StandApart, false≢true, In, found_passes, found_in, any_none, named_apart}
+use Rattle.tree_laws.proofs.Lookups.{StandApart, In, found_passes, found_in, any_none, named_apart}
 use Rattle.tree_laws.proofs.Renaming.{Good, Kept, IsLinked, declaration_good, stand_apart, found_again}
-use Rattle.tree_laws.proofs.RenamedNames.{if_true, joined, IsClear, declared_clear, declared_back, declared_kept, declared_same}
-
-pub if_false : {A : Type 0} (c : Bool) (x y : A) → c ≡ false → (if c then x else y) ≡ y
-if_false true x y e = absurd (false≢true (sym e))
-if_false false x y e = refl
+use Rattle.tree_laws.proofs.RenamedNames.{joined, IsClear, declared_clear, declared_back, declared_kept, declared_same}
 
 prior_has : (r : Option Declaration) → has_linkage (prior_linkage r) ≡ true
 prior_has None = refl

@@ -1,15 +1,15 @@
 -- What is true of the facts of a text without a fault, and of its renaming.
 use Rattle.std.proofs.Common.{ℕ, ◌≡◌, Bool, true, false, ◌&&◌, List, ◌∷◌, Option, None, Some, inl, inr, refl, sym, ap, subst, ◌∙◌}
 use Rattle.std.specs.Prelude.{IfSome}
-use Rattle.std.proofs.lemmas.Bool.{cases_Bool, and_parts}
+use Rattle.std.proofs.lemmas.Bool.{and_parts, false≢true}
 use Rattle.cs_base.specs.Token.{Token}
-use Rattle.scope_bind.specs.Named.{Cause, Fault, Space, Declaration, Occurrence, ordinary}
-use Rattle.c_types.specs.Faults.{first_fault, comes_first}
+use Rattle.scope_bind.specs.Named.{Cause, Space, Declaration, Occurrence, ordinary}
+use Rattle.scope_bind.proofs.ScopeLemmas.{fault_some}
 use Rattle.c_types.specs.Declarations.{Facts, has_linkage, with_fault, with_occurrence, with_declaration, is_space, alike, is_named, looked_up}
 use Rattle.name_chains.specs.Members.{with_silent}
 use Rattle.tree_laws.proofs.Unnamed.{is_unnamed, found_named}
 use Rattle.tree_laws.specs.RenamedNames.{StaysApart}
-use Rattle.tree_laws.proofs.Lookups.{StandApart, false≢true, In, found_passes, found_in, alike_same, looked_up_same}
+use Rattle.tree_laws.proofs.Lookups.{StandApart, In, found_passes, found_in, alike_same, looked_up_same}
 
 abbrev pub occurrence : ℕ → ℕ → Bool → Occurrence
 occurrence index entity declares = record { index = index; entity = entity; declares = declares }
@@ -39,13 +39,6 @@ pub record Kept (a : List Token) (facts : Facts) : Type 0 where
   pub one : (i : ℕ) (d e : Declaration) → In d facts.declared → In e facts.declared → IsLinked a i d → IsLinked a i e → d.entity ≡ e.entity
 
 -- ---- Faults
-
-fault_some : (o : Option Fault) (f : Fault) → first_fault o f ≡ None → ⊥
-fault_some None f e = cc
-fault_some (Some g) f e = elim (cases_Bool (comes_first f g)) [
-  | inl h ↦ let s : Some f ≡ None = rw h at e in cc
-  | inr h ↦ let s : Some g ≡ None = rw h at e in cc
-]
 
 module _ (a b : List Token) where
   pub fault_back : (c : Bool) (cause : Cause) (i : ℕ) (facts : Facts) → Good a b (with_fault c cause i facts) → c ≡ false

@@ -1,6 +1,7 @@
 -- Which nodes stand in which, by the tables of both standards.
 use Rattle.std.proofs.Common.{◌≡◌, Bool, true, false, ◌&&◌, ◌||◌, not, if◌then◌else◌, refl, ap}
 use Rattle.std.proofs.lemmas.Bool.{and_parts, and_from, or_parts, not-true, false≢true}
+use Rattle.cs_base.proofs.BoolLemmas.{not_and_true as strict_free}
 use Rattle.c99_tree.specs.Tree.{Forest, none, token, node, Node, Part, leaf, inner, put, lone, collapsed}
 use Rattle.c99_tree.specs.declared.production.Label.{Label}
 use Rattle.c99_tree.specs.declared.production.Production.{Production}
@@ -164,10 +165,6 @@ formed_finished strict p n h = by (collapses p)
 -- what is strictly so has no such semicolon; and what has none is strictly so
 abbrev lone_here : Bool → Label → Bool
 lone_here strict l = not (is_lone l && strict)
-
-strict_free : (b : Bool) → not (b && true) ≡ true → b ≡ false
-strict_free true e = absurd (false≢true e)
-strict_free false e = refl
 
 free_strict : (b strict : Bool) → b ≡ false → not (b && strict) ≡ true
 free_strict true strict e = cc

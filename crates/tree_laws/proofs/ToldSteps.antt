@@ -14,10 +14,11 @@ use Rattle.c_types.specs.Declarations.{Facts, has_linkage, is_live, is_typedef_n
 use Rattle.scope_bind.specs.declared.bound.Name.{Name}
 use Rattle.scope_bind.specs.Named.{Cause, Declaration, Occurrence, Declared, Frame, Scope, undeclared, redeclared, mixed_linkage, tag_redefined, ordinary, tags}
 use Rattle.scope_bind.specs.Ordinary.{is_again, entity_of, is_listed, declaration_of, declared_faults, declared, used_as, used, is_func, named_facts, plain_name, new_object, with_object, with_enumerator}
+use Rattle.scope_bind.proofs.ScopeLemmas.{fault_some as not_clean}
 use Rattle.tree_laws.proofs.Lookups.{In}
 use Rattle.tree_laws.specs.Told.{is_ordinary, is_constant, DeclaresAt, UsesAt, DeclaresAgain, TagAt}
 use Rattle.tree_laws.proofs.Moves.{name_noted, IsFound, found_is, fault_moved}
-use Rattle.tree_laws.proofs.Grown.{Grown, IsLater, grown_same, grown_then, grown_in, not_clean, later_law}
+use Rattle.tree_laws.proofs.Grown.{Grown, IsLater, grown_same, grown_then, grown_in, later_law}
 use Rattle.tree_laws.proofs.Sorted.{NoTwice, no_twice_behind, IsSorted, Sorted}
 use Rattle.tree_laws.proofs.Finish.{sort_ordinary, NoEntity, IsFinal, names, is_name, kind_of, kind_is, kind_sort, noted_as, declared_in, declares_at, uses_at, tag_declared, tag_used}
 

@@ -8,6 +8,7 @@ use Rattle.c99_grammar.specs.declared.dialects.Edition.{Edition}
 use Rattle.cs_base.specs.Token.{Token}
 use Rattle.cs_base.specs.declared.tokens.Kind.{Kind}
 use Rattle.cs_base.specs.declared.tokens.Kind.TheVariants as kind
+use Rattle.cs_base.proofs.BoolLemmas.{or_met as implied}
 use Rattle.c99_tree.specs.declared.production.Production.TheVariants.{Enumerator, Pdirect}
 use Rattle.c99_grammar.specs.Classes.{among}
 use Rattle.c99_grammar.specs.Items.{names}
@@ -16,7 +17,6 @@ use Rattle.c99_grammar.specs.Standard.{c99, iso}
 use Rattle.c99_grammar.proofs.StandardLemmas.{keywords_fit}
 use Rattle.c99_read.specs.State.{State, base_at, is_identifier, is_typedef_at, class_at}
 use Rattle.c99_grammar.specs.TokenClasses.{spelled_class, class_of_kind, base_class}
-use Rattle.tree_laws.proofs.NameClasses.{implied}
 use Rattle.tree_laws.proofs.Private.{Class}
 use Rattle.tree_laws.proofs.Parts.{first_body, rest_of, front_of, inside_of, classes_of, second_test, asked_second}
 

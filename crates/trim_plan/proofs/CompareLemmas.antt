@@ -1,10 +1,10 @@
 -- What is compared of two units.
-use Rattle.std.proofs.Common.{◌≡◌, ℕ, ◌+◌, ◌<◌, ◌≤◌, Bool, true, false, cond, List, Option, Some, None, length, slice_get, refl, sym, ap, subst, ◌∙◌, inl, inr, arith}
+use Rattle.std.proofs.Common.{◌≡◌, ℕ, ◌+◌, ◌<◌, Bool, true, false, cond, List, Option, Some, None, length, slice_get, sym, ap, subst, ◌∙◌, inl, inr, arith}
 use Rattle.std.specs.Option.{option_map}
 use Rattle.std.specs.Str.{bytes_eq}
 use Rattle.std.specs.Cmp.Lexicographic.{bytes_decides}
 use Rattle.std.proofs.lemmas.Bool.{cases_Bool}
-use Rattle.std.proofs.lemmas.Option.{none-some, same_Some, slice_get_within}
+use Rattle.std.proofs.lemmas.Option.{same_Some}
 use Rattle.cs_base.specs.declared.tokens.Kind.{Kind}
 use Rattle.cs_base.specs.Token.{Token}
 use Rattle.analysis.specs.Below.scope_bind.declared.bound.Name.{Name}
@@ -12,7 +12,7 @@ use Rattle.analysis.specs.Below.scope_bind.Names.{entity_at, declares_at, kind_a
 use Rattle.analysis.specs.Analysis.{UnitAnalysis}
 use Rattle.analysis.specs.Below.c99_tree.Tree.{Node}
 use Rattle.analysis.specs.Below.scope_bind.Bound.{Bound}
-use Rattle.analysis.specs.Below.source_files.Files.{Entry, Table, absent_at}
+use Rattle.analysis.specs.Below.source_files.Files.{Table, absent_at}
 use Rattle.analysis.specs.Below.unit_steps.Texts.{UnitTextValue}
 use Rattle.cs_base.specs.declared.positions.Pos.{Pos}
 use Rattle.trim_plan.specs.declared.left.Left.{Left}
@@ -142,16 +142,6 @@ known-one has b path o x own at told passed =
 pub known-none : (has : List ℕ → Bool) (o : Option (List ℕ)) (x : List ℕ) → o ≡ None → o ≡ Some x → has x ≡ true
 known-none has None x none at = absurd (cc)
 known-none has (Some y) x none at = absurd (cc)
-
--- a number that is absent is one of the table
-pub absent-within : (table : Table) (k : ℕ) (path : List ℕ) → absent_at table k ≡ Some path → k < length table
-absent-within table k path at = by (slice_get table k) refl
-  where
-    by : (o : Option Entry) → slice_get table k ≡ o → k < length table
-    by (Some e) there = slice_get_within table k e there
-    by None there =
-        let none : absent_at table k ≡ None = rw there refl in
-        absurd (none-some path (sym none ∙ at))
 
 -- what is so below a number and at it is so below the next
 pub below-next : (P : ℕ → Type 0) (k j : ℕ) → j < k + 1 → ((i : ℕ) → i < k → P i) → P k → P j

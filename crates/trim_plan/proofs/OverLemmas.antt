@@ -1,6 +1,6 @@
 -- A trim keeps the rest over each source with its analysis.
-use Rattle.std.proofs.Common.{◌≡◌, ℕ, zero, suc, ◌+◌, ◌<◌, ◌&&◌, Bool, true, false, cond, List, [], ◌∷◌, ◌++◌, length, Option, None, Some, Result, Ok, Err, refl, sym, ap, subst, ◌∙◌, inl, inr, ◌⊎◌, arith}
-use Rattle.std.specs.Prelude.{◌≢◌, All, map, slice_get}
+use Rattle.std.proofs.Common.{◌≡◌, ℕ, zero, suc, ◌+◌, true, false, cond, List, [], ◌∷◌, ◌++◌, Option, None, Some, Result, Ok, Err, refl, sym, ap, subst, ◌∙◌, inl, inr, ◌⊎◌}
+use Rattle.std.specs.Prelude.{All, map, slice_get}
 use Rattle.std.specs.Option.{option_map, option_map_or, option_and_then}
 use Rattle.std.specs.Str.{bytes_eq}
 use Rattle.std.specs.Cmp.Lexicographic.{bytes_decides}
@@ -17,7 +17,9 @@ use Rattle.cs_base.specs.Units.{UnitValue}
 use Rattle.analysis.specs.Analysis.{UnitAnalysis, unit_analysis, UnitsValue, units_and, with_unit, AnalysisValue, analysis_and, bound_unit, read_unit, unit_read, analysed_from, analysis_of}
 use Rattle.analysis.specs.Below.include_tree.Preprocessed.{Preprocessed}
 use Rattle.analysis.specs.Below.source_files.Faults.{Fault}
-use Rattle.cs_base.specs.Answer.{result_then, result_map_err}
+use Rattle.cs_base.specs.Answer.{result_then}
+use Rattle.cs_base.proofs.OptionLemmas.{ok_same}
+use Rattle.cs_base.proofs.AnswerLemmas.{map_err_ok as unmapped}
 use Rattle.analysis.specs.Below.include_tree.PseudoFiles.{is_pseudo}
 use Rattle.analysis.specs.Below.source_files.Files.{Source, source_of, Found, Lines, Absent, Unopened, Opened, Made, Entry, Table, Carried, absent_at, is_absent, nothing_carried}
 use Rattle.analysis.specs.Below.source_files.KeptFiles.{KeptValue, kept, kept_at, kept_in, kept_bytes}
@@ -26,11 +28,11 @@ use Rattle.analysis.specs.Below.ws_file.Workspace.{WorkspaceValue, IsWorkspace}
 use Rattle.analysis.specs.Tables.{MadeArePseudo, IsPseudoIfMade, MadeFilesArePseudo, PathsStandOnce, TablesAreFound}
 use Rattle.analysis.specs.Texts.{UnitFault, unit_fault, unit_with}
 use Rattle.edited_files.specs.Edited.{AreMade}
-use Rattle.trim_plan.specs.Kept.{HoldsLines, AreTrimmed, KeepsRest, TrimsOver}
+use Rattle.trim_plan.specs.Kept.{AreTrimmed, TrimsOver}
 use Rattle.trim_plan.specs.Left.{is_gone}
-use Rattle.trim_plan.specs.Places.{AreCompared, AsksNoMore, IsCompared}
+use Rattle.trim_plan.specs.Places.{AreCompared}
 use Rattle.trim_plan.specs.Second.{IsFileOf, IsSecond}
-use Rattle.trim_plan.specs.Trimmed.{IsTrimmedUnit, IsTrimmedAnalysis, IsLeft, HoldsTrimmed, WasAbsent, WasKnown}
+use Rattle.trim_plan.specs.Trimmed.{IsTrimmedUnit, HoldsTrimmed, WasAbsent, WasKnown}
 use Rattle.trim_plan.proofs.FileLemmas.{entry_kept, path_kept, first_apart, once_behind, edits_trim}
 use Rattle.trim_plan.proofs.SharedLemmas.{denote_alike}
 use Rattle.trim_rules.specs.declared.judging.Judged as declared
@@ -222,33 +224,26 @@ went_on : {X Y E : Type 0} (r : Result X E) (f : X → Result Y E) (y : Y) → r
 went_on (Ok x) f y e = (x, (refl, e))
 went_on (Err e') f y e = absurd (cc)
 
-ok_same : {X E : Type 0} (x y : X) → ◌≡◌ {A = Result X E} (Ok x) (Ok y) → x ≡ y
-ok_same x y e = cc
-
-unmapped : {X E F : Type 0} (r : Result X E) (f : E → F) (x : X) → result_map_err f r ≡ Ok x → r ≡ Ok x
-unmapped (Ok y) f x e = cc
-unmapped (Err e') f x e = absurd (cc)
-
 -- a unit is read by its standard
 read_by : (standard : Standard) (number : ℕ) (path : List ℕ) (p : Preprocessed) (u : UnitAnalysis) → unit_read standard number path p ≡ Ok u → u.standard ≡ standard
 read_by standard number path p u is =
     let read = unmapped (read_unit standard p.after.table path p.text) (unit_fault number) u is in
     let tree = went_on _ (bound_unit standard p.after.table path p.text) u read in
     let bound = went_on _ (λ b. Ok (unit_analysis standard p.text tree.0 b)) u tree.1.1 in
-    let same : unit_analysis standard p.text tree.0 bound.0 ≡ u = ok_same {E = Fault} (unit_analysis standard p.text tree.0 bound.0) u bound.1.1 in
+    let same : unit_analysis standard p.text tree.0 bound.0 ≡ u = ok_same {D = Fault} (unit_analysis standard p.text tree.0 bound.0) u bound.1.1 in
     ap (λ (v : UnitAnalysis). v.standard) (sym same)
 
 standards_from : (source : Source) (number : ℕ) (units : List UnitValue) (before : Carried) (v : UnitsValue) → analysed_from source number units before ≡ Ok v
     → map (λ (u : UnitAnalysis). u.standard) v.units ≡ map (λ (u : UnitValue). u.standard) units
 unfolding analysed_from
 standards_from source number [] before v is =
-    let same : units_and [] before.table ≡ v = ok_same {E = UnitFault} (units_and [] before.table) v is in
+    let same : units_and [] before.table ≡ v = ok_same {D = UnitFault} (units_and [] before.table) v is in
     ap (λ (w : UnitsValue). map (λ (u : UnitAnalysis). u.standard) w.units) (sym same)
 standards_from source number (unit ∷ units) before v is =
     let p = went_on (unit_with source number unit before) _ v is in
     let u = went_on (unit_read unit.standard number unit.path p.0) _ v p.1.1 in
     let later = went_on (analysed_from source (number + 1) units p.0.after) _ v u.1.1 in
-    let same : with_unit u.0 later.0 ≡ v = ok_same {E = UnitFault} (with_unit u.0 later.0) v later.1.1 in
+    let same : with_unit u.0 later.0 ≡ v = ok_same {D = UnitFault} (with_unit u.0 later.0) v later.1.1 in
     let own : u.0.standard ≡ unit.standard = read_by unit.standard number unit.path p.0 u.0 u.1.0 in
     let rest = standards_from source (number + 1) units p.0.after later.0 later.1.0 in
     ap (λ (w : UnitsValue). map (λ (x : UnitAnalysis). x.standard) w.units) (sym same)
@@ -258,7 +253,7 @@ standards_from source number (unit ∷ units) before v is =
 standards : (source : Source) (ws : WorkspaceValue) (a : AnalysisValue) → analysis_of source ws ≡ Ok a → map (λ (u : UnitAnalysis). u.standard) a.units ≡ map (λ (u : UnitValue). u.standard) ws.units
 standards source ws a is =
     let all = went_on (analysed_from source 1 ws.units nothing_carried) _ a is in
-    let same : analysis_and ws all.0.units all.0.table ≡ a = ok_same {E = UnitFault} (analysis_and ws all.0.units all.0.table) a all.1.1 in
+    let same : analysis_and ws all.0.units all.0.table ≡ a = ok_same {D = UnitFault} (analysis_and ws all.0.units all.0.table) a all.1.1 in
     ap (λ (x : AnalysisValue). map (λ (u : UnitAnalysis). u.standard) x.units) (sym same) ∙ standards_from source 1 ws.units nothing_carried all.0 all.1.0
 
 at_map : {X Y : Type 0} (f : X → Y) (xs : List X) (k : ℕ) → slice_get (map f xs) k ≡ option_map f (slice_get xs k)

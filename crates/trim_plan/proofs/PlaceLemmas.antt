@@ -1,5 +1,5 @@
 -- The tokens that are gone, and the places of the others.
-use Rattle.std.proofs.Common.{◌≡◌, ℕ, zero, suc, ◌+◌, ◌<◌, ◌≤◌, ◌&&◌, ◌||◌, not, Bool, true, false, cond, nat_le, nat_lt, List, [], ◌∷◌, ◌++◌, Option, Some, None, length, set, get_or, replicate, slice_get, refl, sym, ap, subst, ◌∙◌, inl, inr, ◌⊎◌, arith, add-one, length-append}
+use Rattle.std.proofs.Common.{◌≡◌, ℕ, zero, suc, ◌+◌, ◌<◌, ◌≤◌, ◌&&◌, ◌||◌, Bool, true, false, cond, nat_le, nat_lt, List, [], ◌∷◌, ◌++◌, Option, Some, length, set, get_or, replicate, slice_get, refl, sym, ap, subst, ◌∙◌, inl, inr, ◌⊎◌, arith, add-one, length-append}
 use Rattle.std.specs.Option.{option_map_or}
 use Rattle.std.proofs.lemmas.Bool.Decides.{nat_tests}
 use Rattle.std.proofs.lemmas.List.{get_or-set_same, get_or-set_other, get_or-replicate, get_or_past, get_or_append_left}
@@ -7,6 +7,7 @@ use Rattle.std.proofs.lemmas.Option.{slice_get_within}
 use Rattle.std.proofs.Math.ListN.{length-set, length-replicate}
 use Rattle.std.proofs.Math.Seq.{get_or-append_seam}
 use Rattle.cs_base.specs.declared.positions.Pos.{Pos}
+use Rattle.cs_base.proofs.BoolLemmas.{or_false as or-none}
 use Rattle.analysis.specs.Below.unit_steps.declared.events.Event.{Event}
 use Rattle.analysis.specs.Below.unit_steps.Texts.{UnitTextValue}
 use Rattle.trim_plan.specs.declared.left.Left.{Left}
@@ -16,10 +17,6 @@ use Rattle.trim_rules.specs.Numbers.{is_below}
 use Rattle.trim_rules.proofs.NumberLemmas.{less-or-not, le-or-not}
 
 -- ---- marks
-
-or-none : (a : Bool) → a ≡ (a || false)
-or-none true = refl
-or-none false = refl
 
 pub marks-same : (more : ℕ → Bool) (old : List Bool) → ((k : ℕ) → k < length old → more k ≡ false) → MarksMore more old old
 marks-same more old none = record { many = refl; each = λ k within. or-none (mark_at old k) ∙ ap (λ (b : Bool). mark_at old k || b) (sym (none k within)) }
@@ -216,10 +213,3 @@ places-told gone k count places all h = record {
   many = h.many ∙ ap (λ (n : ℕ). n + 1) all;
   each = λ j within. h.each j (omega (arith, all, within));
 }
-
-pub and-false : (a : Bool) → (a && false) ≡ false
-and-false true = refl
-and-false false = refl
-
-pub both-true : (a b : Bool) → a ≡ true → b ≡ true → (a && b) ≡ true
-both-true a b x y = ap (λ (c : Bool). c && b) x ∙ y

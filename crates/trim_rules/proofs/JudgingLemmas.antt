@@ -1,21 +1,20 @@
 -- What is known of the lines that are judged, as units are walked over.
-use Rattle.std.proofs.Common.{◌≡◌, ℕ, zero, suc, ◌+◌, ◌-◌, ◌<◌, ◌≤◌, ◌&&◌, ◌||◌, not, Bool, true, false, cond, nat_eq, List, [], ◌∷◌, ◌++◌, Option, Some, None, length, take, slice_get, refl, sym, ap, subst, ◌∙◌, inl, inr, arith, add-one}
+use Rattle.std.proofs.Common.{◌≡◌, ℕ, zero, suc, ◌+◌, ◌<◌, ◌&&◌, ◌||◌, Bool, true, false, cond, List, [], ◌∷◌, ◌++◌, Option, Some, None, length, slice_get, refl, sym, ap, subst, ◌∙◌, inl, inr, arith, add-one}
 use Rattle.std.specs.Prelude.{map}
 use Rattle.std.specs.List.{list_any}
 use Rattle.std.specs.Option.{option_map, option_map_or, option_and_then, option_or}
-use Rattle.std.proofs.lemmas.Bool.{cases_Bool, and_parts, eqb-true, eq-eqb}
-use Rattle.std.proofs.lemmas.Bool.Decides.{nat_tests}
+use Rattle.std.proofs.lemmas.Bool.{cases_Bool, and_parts}
 use Rattle.std.proofs.lemmas.Option.{same_Some}
 use Rattle.std.proofs.lemmas.List.{map-append}
 use Rattle.cs_base.specs.declared.positions.Pos.{Pos}
 use Rattle.analysis.specs.Below.include_tree.Walk.{ItemText}
 use Rattle.analysis.specs.Below.source_files.Files.{Table}
-use Rattle.analysis.specs.Below.source_files.KeptFiles.{KeptValue, kept_at}
+use Rattle.analysis.specs.Below.source_files.KeptFiles.{kept_at}
 use Rattle.analysis.specs.Below.unit_steps.declared.events.Event.{Event}
-use Rattle.analysis.specs.Below.unit_steps.Texts.{UnitTextValue}
 use Rattle.analysis.specs.Analysis.{UnitAnalysis, AnalysisValue}
 use Rattle.unused_names.specs.Inclusions.{is_enter}
 use Rattle.unused_names.specs.Lines.{is_position}
+use Rattle.unused_names.proofs.LineLemmas.{position_same as position-same, position_itself as position-self}
 use Rattle.trim_rules.specs.declared.judging.Judged as declared
 use Rattle.trim_rules.specs.JudgedLines.{judged_in, is_open, is_undecided, flat, told_judgement, AreKnown}
 use Rattle.trim_rules.specs.Judging.{Told, Learns, unless, AreStarted}
@@ -24,25 +23,6 @@ use Rattle.trim_rules.specs.Staying.{Why, Judged, judged, computed, is_header_li
 use Rattle.trim_rules.specs.Trimmed.{is_line}
 
 -- ---- positions
-
-pub position-same : (p q : Pos) → is_position p q ≡ true → p ≡ q
-position-same p q h =
-    let parts = and_parts (nat_eq p.file q.file) (nat_eq p.at q.at) h in
-    let file : p.file ≡ q.file = equal p.file q.file parts.0 in
-    let at : p.at ≡ q.at = equal p.at q.at parts.1 in
-    ap (λ (f : ℕ). pos f p.at) file ∙ ap (pos q.file) at
-  where
-    equal : (m n : ℕ) → nat_eq m n ≡ true → m ≡ n
-    equal m n e = eqb-true m n e
-
-    pos : ℕ → ℕ → Pos
-    pos f a = record { file = f; at = a }
-
-pub position-self : (p : Pos) → is_position p p ≡ true
-position-self p = twice p.file p.at
-  where
-    twice : (m n : ℕ) → (nat_eq m m && nat_eq n n) ≡ true
-    twice m n = ap (λ (b : Bool). b && nat_eq n n) (eq-eqb m m refl) ∙ eq-eqb n n refl
 
 position-apart : (p q : Pos) → is_position p q ≡ false → is_position q p ≡ false
 position-apart p q h = elim (cases_Bool (is_position q p)) [

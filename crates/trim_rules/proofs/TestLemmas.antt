@@ -1,11 +1,6 @@
 -- Tests and elements of lists, as code gives them.
-use Rattle.std.proofs.Common.{◌≡◌, ℕ, ◌<◌, Bool, true, false, List, Some, length, get_or, slice_get, refl, sym, ap, ◌∙◌}
+use Rattle.std.proofs.Common.{◌≡◌, Bool, true, false}
 use Rattle.std.specs.Prelude.{MatchBool}
-use Rattle.std.proofs.lemmas.Option.{slice_get-get_or}
-
--- the element that an index reads
-pub read_at : {X : Type 0} (xs : List X) (k : ℕ) (x : X) → k < length xs → x ≡ get_or xs k x → slice_get xs k ≡ Some x
-read_at {X = X} xs k x within is = slice_get-get_or xs k x within ∙ ap (λ (y : X). Some y) (sym is)
 
 -- what a test tells
 pub told_true : (b : Bool) (A B : Type 0) → b ≡ true → MatchBool b A B → A

@@ -1,11 +1,11 @@
 -- Files in which include lines are null directives.
-use Rattle.std.proofs.Common.{◌≡◌, ℕ, zero, suc, ◌+◌, ◌<◌, ◌≤◌, ◌&&◌, ◌||◌, Bool, true, false, cond, List, [], ◌∷◌, ◌++◌, Option, Some, None, length, drop, take, get_or, refl, sym, ap, subst, ◌∙◌, inl, inr, arith, length-append}
-use Rattle.std.specs.Prelude.{IsUtf8, filter, map, slice_get, OnOk, IfOk, Result, Ok, Err}
+use Rattle.std.proofs.Common.{◌≡◌, ℕ, ◌+◌, ◌<◌, ◌≤◌, ◌||◌, Bool, true, false, cond, List, [], ◌∷◌, ◌++◌, Option, Some, None, length, drop, refl, sym, ap, ◌∙◌, inl, inr, arith, length-append}
+use Rattle.std.specs.Prelude.{IsUtf8, filter, map, OnOk, Result, Ok, Err}
 use Rattle.std.specs.Str.{is_utf8}
 use Rattle.std.proofs.lemmas.Str.{IsUtf8-from_is_utf8}
-use Rattle.std.specs.List.{flat_map, list_all, list_any, slice_range}
-use Rattle.std.specs.Option.{option_map, option_map_or, option_and_then}
-use Rattle.std.proofs.lemmas.Bool.{cases_Bool, and_parts, eqb-true}
+use Rattle.std.specs.List.{flat_map, slice_range}
+use Rattle.std.specs.Option.{option_map_or}
+use Rattle.std.proofs.lemmas.Bool.{cases_Bool}
 use Rattle.std.proofs.lemmas.Grind.{flat_map-append}
 use Rattle.std.proofs.lemmas.List.{at_drop_more, at_drop_all, append-nil}
 use Rattle.std.proofs.lemmas.Option.{slice_get-get_or}
@@ -13,22 +13,25 @@ use Rattle.cs_base.specs.declared.positions.Part.{Part}
 use Rattle.cs_base.specs.declared.positions.Pos.{Pos}
 use Rattle.cs_base.specs.Edit.{Edit, edit}
 use Rattle.cs_base.specs.Token.{Token}
+use Rattle.cs_base.proofs.ListLemmas.{passes-at}
 use Rattle.analysis.specs.FileTokens.{span_of}
 use Rattle.edited_files.specs.Edited.{with_edit, with_each}
+use Rattle.edited_files.proofs.EditLemmas.{with_each-append, with_each-none, with_each-one}
 use Rattle.analysis.specs.Below.include_tree.PseudoFiles.{is_pseudo}
-use Rattle.analysis.specs.Below.include_tree.Walk.{ItemText, item_text, item_texts}
+use Rattle.analysis.specs.Below.include_tree.Walk.{ItemText, item_text}
 use Rattle.analysis.specs.Below.lexer.Tokens.{tokens_of, firsts_of}
 use Rattle.analysis.specs.Below.line_shape.declared.items.Item.{Item}
 use Rattle.analysis.specs.Below.line_shape.Items.{items_of as shaped_items}
 use Rattle.analysis.specs.Below.source_files.Files.{Table, Entry, Absent, entry}
-use Rattle.analysis.specs.Below.source_files.KeptFiles.{KeptValue, kept, kept_bytes, kept_in, kept_at}
+use Rattle.analysis.specs.Below.source_files.KeptFiles.{KeptValue, kept_at}
 use Rattle.analysis.specs.Below.source_files.Tables.{paths_in, AreText}
+use Rattle.analysis.proofs.Below.source_files.KeptLemmas.{kept_path as kept-path}
 use Rattle.part_respell.specs.Respelled.{respelled}
 use Rattle.trim_rules.specs.declared.trimming.TrimmedFile.{TrimmedFile}
 use Rattle.trim_rules.specs.Gone.{in_line, AreGone, AreAllGone}
 use Rattle.trim_rules.specs.Made.{AgreeOn, edit_made}
 use Rattle.trim_rules.specs.Staying.{items_of}
-use Rattle.trim_rules.specs.Trimmed.{is_line, lines_in, behind_hash, without, edit_for, edit_in, edits_from, edits_of}
+use Rattle.trim_rules.specs.Trimmed.{is_line, lines_in, behind_hash, edit_for, edit_in, edits_from, edits_of}
 use Rattle.unused_names.specs.Lines.{is_position}
 use Rattle.trim_rules.proofs.JudgingLemmas.{any-last}
 
@@ -108,19 +111,6 @@ some-trimmed lines f parts count bytes are is some made = by (lines_in lines f) 
 
 -- ---- all edits
 
-pub with_each-append : (xs ys edits : List Edit) → with_each (xs ++ ys) edits ≡ with_each ys (with_each xs edits)
-unfolding with_each
-with_each-append [] ys edits = refl
-with_each-append (e ∷ xs) ys edits = with_each-append xs ys (with_edit e edits)
-
-pub with_each-one : (e : Edit) (edits : List Edit) → with_each (e ∷ []) edits ≡ with_edit e edits
-unfolding with_each
-with_each-one e edits = refl
-
-pub with_each-none : (edits : List Edit) → with_each [] edits ≡ edits
-unfolding with_each
-with_each-none edits = refl
-
 pub put-made : {X E : Type 0} (f : KeptValue) (m : TrimmedFile) (path bytes : List ℕ) (before now : List Edit) (r : Result X E) → path ≡ f.path → bytes ≡ m.bytes.items
     → OnOk r (now ≡ with_edit (edit path bytes m.count) before) → OnOk r (now ≡ with_each (edit_made f (Some m)) before)
 put-made f m path bytes before now (Ok x) own made put =
@@ -138,24 +128,6 @@ pub file-none : (lines : List Pos) (f : KeptValue) (o : Option TrimmedFile) (bef
 file-none lines f o before is made = sym (with_each-none before) ∙ ap (λ (es : List Edit). with_each es before) (sym (ap (edit_made f) is) ∙ made)
 
 -- ---- paths
-
-passes-at : {X : Type 0} (p : X → Bool) (xs : List X) (k : ℕ) (x : X) → list_all p xs ≡ true → slice_get xs k ≡ Some x → p x ≡ true
-passes-at p [] zero x all at = absurd cc
-passes-at p [] (suc k) x all at = absurd cc
-passes-at p (y ∷ xs) zero x all at =
-    let same : y ≡ x = cc in
-    ap p (sym same) ∙ (and_parts (p y) (list_all p xs) all).0
-passes-at p (y ∷ xs) (suc k) x all at = passes-at p xs k x (and_parts (p y) (list_all p xs) all).1 at
-
-kept-path : (table : Table) (n k : ℕ) (f : KeptValue) → option_and_then (kept_in n) (slice_get table k) ≡ Some f → slice_get (paths_in table) k ≡ Some f.path
-kept-path [] n zero f h = absurd cc
-kept-path [] n (suc k) f h = absurd cc
-kept-path (e ∷ table) n (suc k) f h = kept-path table n k f h
-kept-path (e ∷ table) n zero f h = here (kept_bytes e.found) h
-  where
-    here : (o : Option (List ℕ)) → option_map (kept n e.path) o ≡ Some f → Some e.path ≡ Some f.path
-    here None is = absurd cc
-    here (Some bytes) is = ap (λ (o : Option KeptValue). option_map (λ (g : KeptValue). g.path) o) is
 
 pub kept-text : (table : Table) (n : ℕ) (f : KeptValue) → AreText table → kept_at table n ≡ Some f → IsUtf8 f.path
 kept-text table n f texts h = IsUtf8-from_is_utf8 f.path (passes-at is_utf8 (paths_in table) n f.path texts (kept-path table n n f h))

@@ -13,10 +13,10 @@ use Rattle.unit_steps.specs.Below.cond_eval.Evaluation.{condition}
 use Rattle.source_files.specs.Faults.{fault_at}
 use Rattle.source_files.specs.Files.{SourceFile, Table}
 use Rattle.unit_steps.specs.Notes.{Note, Answered}
-use Rattle.unit_steps.specs.State.{State, Did, onward}
+use Rattle.unit_steps.specs.State.{State, Did}
 use Rattle.unit_steps.specs.Names.{name_links, with_name}
 use Rattle.unit_steps.specs.Expanding.{expanded_in}
-use Rattle.unit_steps.specs.Conditions.{Piece, Plain, Asks, is_defined, in_parentheses, operand_of, onto_pieces, asks_with, pieces_from, answer_for, is_macro, test_notes, answered, left_over, valued, judged, asked_pieces, holds}
+use Rattle.unit_steps.specs.Conditions.{Piece, Plain, Asks, is_defined, in_parentheses, operand_of, onto_pieces, asks_with, pieces_from, answer_for, is_macro, test_notes, answered, left_over, valued, judged, asked_pieces, asked_toks, holds}
 use Rattle.source_files.specs.Tables.{IsGrown}
 use Rattle.source_files.proofs.TableLemmas.{grown_refl, grown_trans}
 use Rattle.expansion_laws.proofs.ListLemmas.{AllToks}
@@ -135,25 +135,23 @@ module _ (P : Token → Type 0) (M : Note → Type 0) (table : Table) (rules : U
   valued_done file at toks s (Err found) = tt
   valued_done file at toks s (Ok b) = (left_grown toks s, λ h reach has told. let k = left_fine toks s h has in (tt, k.0, k.1))
 
-  judged_done : (file : SourceFile) (at : Pos) (toks : List Token) (s : State) → Done P M table (AllToks P toks) (λ (b : Bool). Unit {0}) s (judged file at toks s)
+  pub judged_done : (file : SourceFile) (at : Pos) (toks : List Token) (s : State) → Done P M table (AllToks P toks) (λ (b : Bool). Unit {0}) s (judged file at toks s)
   judged_done file at toks s =
       done_test P M table (AllToks P toks) (λ (b : Bool). Unit {0}) s (list_any is_defined toks) (fault_at file at DefinedFromMacro)
       (valued file at toks s (condition toks)) (valued_done file at toks s (condition toks))
 
-  expanded_judged : (pre : Type 0) (file : SourceFile) (at : Pos) (toks : List Token) (s : State) → (pre → AllToks P toks)
-      → Done P M table pre (λ (b : Bool). Unit {0}) s (onward (expanded_in false file toks s) (judged file at))
-  expanded_judged pre file at toks s h =
-      done_onward P M table pre (AllToks P) (λ (b : Bool). Unit {0}) s (expanded_in false file toks s) (judged file at)
-      (done_more P M table (AllToks P toks) pre (AllToks P) (AllToks P) s (expanded_in false file toks s) h (λ a p k. k) (expanded_done P M table rules false file toks s))
-      (λ out t. done_more P M table (AllToks P out) (pre × AllToks P out) (λ (b : Bool). Unit {0}) (λ (b : Bool). Unit {0}) t (judged file at out t) (λ p. p.1) (λ a p k. tt) (judged_done file at out t))
-
-  asked_done : (pre : Type 0) (file : SourceFile) (at : Pos) (s : State) (o : Option (List Piece)) → ((ps : List Piece) → o ≡ Some ps → pre → AllIn (PieceHas P) ps)
-      → Done P M table pre (λ (b : Bool). Unit {0}) s (asked_pieces file at s o)
-  asked_done pre file at s None h = tt
-  asked_done pre file at s (Some pieces) h =
-      done_onward P M table pre (AllToks P) (λ (b : Bool). Unit {0}) s (Ok (answered pieces s)) (λ toks t. onward (expanded_in false file toks t) (judged file at))
+  asked_pieces_done : (pre : Type 0) (file : SourceFile) (at : Pos) (s : State) (o : Option (List Piece)) → ((ps : List Piece) → o ≡ Some ps → pre → AllIn (PieceHas P) ps)
+      → Done P M table pre (AllToks P) s (asked_pieces file at s o)
+  asked_pieces_done pre file at s None h = tt
+  asked_pieces_done pre file at s (Some pieces) h =
+      done_onward P M table pre (AllToks P) (AllToks P) s (Ok (answered pieces s)) (expanded_in false file)
       (done_more P M table (AllIn (PieceHas P) pieces) pre (AllToks P) (AllToks P) s (Ok (answered pieces s)) (λ p. h pieces refl p) (λ a p k. k) (answered_done pieces s))
-      (λ toks t. expanded_judged (pre × AllToks P toks) file at toks t (λ p. p.1))
+      (λ toks t. done_more P M table (AllToks P toks) (pre × AllToks P toks) (AllToks P) (AllToks P) t (expanded_in false file toks t) (λ p. p.1) (λ a p k. k) (expanded_done P M table rules false file toks t))
+
+  pub asked_done : (file : SourceFile) (at : Pos) (toks : List Token) (s : State) → Done P M table (AllToks P toks) (AllToks P) s (asked_toks file at toks s)
+  asked_done file at toks s = asked_pieces_done (AllToks P toks) file at s (pieces_from 0 toks) (λ ps e h. pieces_have 0 toks ps h e)
 
   pub holds_done : (file : SourceFile) (at : Pos) (toks : List Token) (s : State) → Done P M table (AllToks P toks) (λ (b : Bool). Unit {0}) s (holds file at toks s)
-  holds_done file at toks s = asked_done (AllToks P toks) file at s (pieces_from 0 toks) (λ ps e h. pieces_have 0 toks ps h e)
+  holds_done file at toks s =
+      done_onward P M table (AllToks P toks) (AllToks P) (λ (b : Bool). Unit {0}) s (asked_toks file at toks s) (judged file at) (asked_done file at toks s)
+      (λ out t. done_more P M table (AllToks P out) (AllToks P toks × AllToks P out) (λ (b : Bool). Unit {0}) (λ (b : Bool). Unit {0}) t (judged file at out t) (λ p. p.1) (λ a p k. tt) (judged_done file at out t))

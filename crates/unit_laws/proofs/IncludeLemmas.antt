@@ -74,7 +74,7 @@ module _ (P : Token → Type 0) (M : Note → Type 0) (table : Table) (rules : U
       let found : Searched = search source paths s.table in
       searched_done file at s found found.path (search_wide source paths s.table).grown
 
-  or_done : (pre : Type 0) (file : SourceFile) (at : Pos) (toks : List Token) (s : State) (o : Option Header) → (pre → AllToks P toks)
+  pub or_done : (pre : Type 0) (file : SourceFile) (at : Pos) (toks : List Token) (s : State) (o : Option Header) → (pre → AllToks P toks)
       → Done P M table pre (Any {A = Header}) s (header_or file at toks s o)
   or_done pre file at toks s None h = tt
   or_done pre file at toks s (Some header) h = (grown_refl s.table, λ p reach has told. (tt, has, (h p, tt)))

@@ -21,6 +21,7 @@ mod NamingLemmas
 mod DefiningLemmas
 mod ConditionLemmas
 mod IncludeLemmas
+mod AskingLemmas
 mod WalkLemmas
 mod TestLemmas
 mod FileLemmas
@@ -29,6 +30,7 @@ mod StepLemmas
 mod ReorderedStepLemmas
 mod OpenLemmas
 mod LineLemmas
+mod ReorderedAskingLemmas
 mod RunLemmas
 mod ReorderedWalkLemmas
 mod SignLemmas

@@ -27,7 +27,7 @@ use Rattle.source_files.specs.HeaderNames.{is_header, header_in, header_of_toks,
 use Rattle.source_files.specs.Search.{Header, behind_of}
 use Rattle.source_files.specs.Tables.{IsGrown, AreFound}
 use Rattle.source_files.proofs.TableLemmas.{grown_refl}
-use Rattle.unit_steps.specs.Conditions.{Piece, Plain, Asks, pieces_from, is_macro, test_notes, answer_for, answered, left_name, left_over, valued, judged, asked_pieces, holds, is_defined}
+use Rattle.unit_steps.specs.Conditions.{Piece, Plain, Asks, pieces_from, is_macro, test_notes, answer_for, answered, left_name, left_over, valued, judged, asked_pieces, asked_toks, holds, is_defined}
 use Rattle.unit_steps.specs.Directives.{operand_in, define_notes, after_define, defined_as, define_of, after_undef, undefined_as, undef_of, asks_name, says_once, with_once, said_once, pragma_of, is_read_once, may_define}
 use Rattle.unit_steps.specs.Expanding.{expanded_as, expanded_in}
 use Rattle.unit_steps.specs.IncludeNames.{header_or, computed_header, header_named, written_header, next_named}
@@ -214,30 +214,30 @@ module _ (w : World) where
       let d2 = left_over toks (edited_state w.edit s) in
       steady_goes w s (did b d.notes d.state) (did b d2.notes d2.state) (record { value = refl; notes = k.notes; state = k.state; table = k.table; before = k.before; lines = k.lines; quiet = k.quiet })
 
-  pub holds_goes : (file : SourceFile) (text : TextValue) (at : Pos) (toks : List Token) (s : State)
-      → Still w Same s (holds file at toks s) (holds (with_text file text) at toks (edited_state w.edit s))
-  holds_goes file text at toks s = by (pieces_from 0 toks)
+  pub judged_goes : (file : SourceFile) (text : TextValue) (at : Pos) (out : List Token) (t : State)
+      → Still w Same t (judged file at out t) (judged (with_text file text) at out (edited_state w.edit t))
+  judged_goes file text at out t =
+      still_test w Same t (list_any is_defined out) (fault_at file at cause.DefinedFromMacro) (fault_at (with_text file text) at cause.DefinedFromMacro)
+      (valued file at out t (condition out)) (valued (with_text file text) at out (edited_state w.edit t) (condition out)) (valued_goes file text at out t (condition out))
+
+  pub asked_goes : (file : SourceFile) (text : TextValue) (at : Pos) (toks : List Token) (s : State)
+      → Still w Same s (asked_toks file at toks s) (asked_toks (with_text file text) at toks (edited_state w.edit s))
+  asked_goes file text at toks s = by (pieces_from 0 toks)
     where
-      judged_goes : (out : List Token) (t : State) → Still w Same t (judged file at out t) (judged (with_text file text) at out (edited_state w.edit t))
-      judged_goes out t =
-          still_test w Same t (list_any is_defined out) (fault_at file at cause.DefinedFromMacro) (fault_at (with_text file text) at cause.DefinedFromMacro)
-          (valued file at out t (condition out)) (valued (with_text file text) at out (edited_state w.edit t) (condition out)) (valued_goes file text at out t (condition out))
-
-      next : (toks out : List Token) (t : State) → out ≡ toks
-          → Still w Same t (onward (expanded_in false file toks t) (judged file at)) (onward (expanded_in false (with_text file text) out (edited_state w.edit t)) (judged (with_text file text) at))
-      next toks out t same =
-          subst (λ (l : List Token). Still w Same t (onward (expanded_in false file toks t) (judged file at)) (onward (expanded_in false (with_text file text) l (edited_state w.edit t)) (judged (with_text file text) at))) (sym same)
-          (then_still w Same Same t (expanded_in false file toks t) (expanded_in false (with_text file text) toks (edited_state w.edit t)) (judged file at) (judged (with_text file text) at)
-          (expanded_goes file text t (expanding.expansion t.macros file.path toks t.work))
-          (λ a b u r. subst (λ (l : List Token). Still w Same u (judged file at a u) (judged (with_text file text) at l (edited_state w.edit u))) (sym r) (judged_goes a u)))
-
       by : (o : Option (List Piece)) → Still w Same s (asked_pieces file at s o) (asked_pieces (with_text file text) at (edited_state w.edit s) o)
       by None = tt
       by (Some pieces) =
-          then_still w Same Same s (Ok (answered pieces s)) (Ok (answered pieces (edited_state w.edit s)))
-          (λ toks t. onward (expanded_in false file toks t) (judged file at)) (λ toks t. onward (expanded_in false (with_text file text) toks t) (judged (with_text file text) at))
+          then_still w Same Same s (Ok (answered pieces s)) (Ok (answered pieces (edited_state w.edit s))) (expanded_in false file) (expanded_in false (with_text file text))
           (steady_goes w s (answered pieces s) (answered pieces (edited_state w.edit s)) (answered_steady w.edit pieces s))
-          (λ a b t r. next a b t r)
+          (λ a b t r. subst (λ (l : List Token). Still w Same t (expanded_in false file a t) (expanded_in false (with_text file text) l (edited_state w.edit t))) (sym r)
+          (expanded_goes file text t (expanding.expansion t.macros file.path a t.work)))
+
+  pub holds_goes : (file : SourceFile) (text : TextValue) (at : Pos) (toks : List Token) (s : State)
+      → Still w Same s (holds file at toks s) (holds (with_text file text) at toks (edited_state w.edit s))
+  holds_goes file text at toks s =
+      then_still w Same Same s (asked_toks file at toks s) (asked_toks (with_text file text) at toks (edited_state w.edit s)) (judged file at) (judged (with_text file text) at)
+      (asked_goes file text at toks s)
+      (λ a b u r. subst (λ (l : List Token). Still w Same u (judged file at a u) (judged (with_text file text) at l (edited_state w.edit u))) (sym r) (judged_goes file text at a u))
 
   -- a name that is asked for
   pub asks_goes : (file new : SourceFile) (at : Pos) (answer : Bool → Bool) (s : State) (o : Option Token)
@@ -328,7 +328,7 @@ module _ (w : World) where
 
   -- ---- include lines
 
-  header_or_goes : (file new : SourceFile) (at : Pos) (toks : List Token) (s : State) (o : Option Header)
+  pub header_or_goes : (file new : SourceFile) (at : Pos) (toks : List Token) (s : State) (o : Option Header)
       → Still w Same s (header_or file at toks s o) (header_or new at toks (edited_state w.edit s) o)
   header_or_goes file new at toks s None = tt
   header_or_goes file new at toks s (Some h) =

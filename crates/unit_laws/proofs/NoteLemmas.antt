@@ -6,6 +6,7 @@ use Rattle.std.proofs.lemmas.Option.{none-some, same_Some}
 use Rattle.cs_base.specs.declared.positions.Pos.{Pos}
 use Rattle.cs_base.specs.declared.tokens.Link.{Link}
 use Rattle.cs_base.specs.Token.{Token, origin_at}
+use Rattle.cs_base.proofs.ListLemmas.{in_front}
 use Rattle.macro_body.specs.Notes as expansion
 use Rattle.unit_steps.specs.declared.events.Event.{Event}
 use Rattle.unit_steps.specs.declared.events.EventKind.{EventKind}
@@ -28,11 +29,6 @@ in_at Q (y ∷ ys) h x (suc k) e = in_at Q ys h.1 x k e
 pub each_in : {X : Type 0} (Q : X → Type 0) (xs : List X) → ((x : X) (k : ℕ) → slice_get xs k ≡ Some x → Q x) → AllIn Q xs
 each_in Q [] h = tt
 each_in Q (x ∷ xs) h = (h x 0 refl, each_in Q xs (λ y k e. h y (suc k) e))
-
-in_front : {X : Type 0} (xs ys : List X) (x : X) (k : ℕ) → slice_get xs k ≡ Some x → slice_get (xs ++ ys) k ≡ Some x
-in_front [] ys x k e = absurd (none-some x e)
-in_front (y ∷ xs) ys x zero e = e
-in_front (y ∷ xs) ys x (suc k) e = in_front xs ys x k e
 
 in_back : {X : Type 0} (xs ys : List X) (x : X) (k : ℕ) → slice_get ys k ≡ Some x → IsIn (xs ++ ys) x
 in_back [] ys x k e = (k, e)

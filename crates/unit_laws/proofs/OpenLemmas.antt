@@ -1,11 +1,12 @@
 -- Files are searched and opened alike over the edited files.
-use Rattle.std.proofs.Common.{◌≡◌, ℕ, ◌+◌, nat_le, nat_lt, ◌&&◌, Bool, true, false, not, cond, List, [], ◌∷◌, length, Option, Some, None, Result, Ok, Err, refl, ap, sym, subst, ◌∙◌, inl, inr}
+use Rattle.std.proofs.Common.{◌≡◌, ℕ, ◌+◌, nat_le, nat_lt, Bool, true, false, not, cond, List, [], ◌∷◌, length, Option, Some, None, Result, Ok, Err, refl, ap, sym, subst, ◌∙◌, inl, inr}
 use Rattle.std.specs.Prelude.{slice_get}
 use Rattle.std.specs.Option.{option_map}
 use Rattle.cs_base.specs.declared.causes.Cause.TheVariants.{TooManyFiles, TooManyBytes}
 use Rattle.cs_base.specs.declared.positions.Place.{Place}
 use Rattle.cs_base.specs.declared.positions.Pos.{Pos}
 use Rattle.cs_base.specs.Units.{UnitValue}
+use Rattle.cs_base.proofs.BoolLemmas.{and_none, and_right}
 use Rattle.lexer.specs.FileText.{TextValue, LexFault, FileTooLarge, OpenComment, file_text}
 use Rattle.source_files.specs.Faults.{Fault, fault, place_in}
 use Rattle.source_files.specs.Files.{Found, Lines, Absent, Unopened, Opened, Made, entry, Table, SourceFile, source_file, number_of, found_at, opened, files_opened, bytes_opened}
@@ -85,14 +86,6 @@ tested_too w false b2 found found2 o o2 same h = subst (λ (x : Bool). OpensToo 
 -- what passes it is not too large
 large_false : (r : Result TextValue LexFault) (text : TextValue) → r ≡ Ok text → is_too_large r ≡ false
 large_false r text is = ap is_too_large is
-
-and_right : (b c : Bool) → b ≡ true → (b && c) ≡ false → c ≡ false
-and_right true c is h = h
-and_right false c is h = absurd cc
-
-and_none : (b c : Bool) → c ≡ false → (b && c) ≡ false
-and_none true c h = h
-and_none false c h = refl
 
 -- the second test, whatever is read
 many_too : (w : World) → KeepsTexts w.edit w.old → (place place2 : Place) (path bytes : List ℕ) (t : Table) → AreFound w.old t → found_at path t ≡ Some (Unopened bytes) → Reads w (Opened bytes) (number_of path t) path bytes (w.edit path bytes)

@@ -1,5 +1,5 @@
 -- Parts of lines: their tokens, the names in them, and what definitions take from them.
-use Rattle.std.proofs.Common.{◌≡◌, ℕ, zero, suc, ◌+◌, ◌-◌, ◌&&◌, Bool, true, false, cond, List, [], ◌∷◌, ◌++◌, length, take, drop, map, get_or, Option, Some, None, refl, ap, ◌∙◌, subst, arith, inl, inr}
+use Rattle.std.proofs.Common.{◌≡◌, ℕ, zero, suc, ◌+◌, ◌-◌, ◌&&◌, Bool, true, false, List, [], ◌∷◌, ◌++◌, length, take, drop, map, get_or, Option, Some, None, refl, ap, ◌∙◌, subst, arith, inl, inr}
 use Rattle.std.specs.Prelude.{All, slice_get}
 use Rattle.std.specs.Str.{bytes_eq}
 use Rattle.std.proofs.lemmas.Bool.{cases_Bool}
@@ -18,6 +18,7 @@ use Rattle.line_shape.specs.Directives.{directive_named, takes_name, is_run, nes
 use Rattle.line_shape.specs.BadLines.{cause_on}
 use Rattle.line_shape.specs.Items.{onto_lines, lines_of, line_kind, named_kind, kind_unless, directive_kind, Piece, piece, onto_pieces, pieces_of, item_of, items_from, items_of}
 use Rattle.line_shape.specs.MacroLine.{MacroParts, macro, before_close, behind_close, is_function_like, is_parameter_list, params_in, function_macro, macro_of}
+use Rattle.line_shape.proofs.SignLemmas.{cond-parts as cond_parts}
 use Rattle.macro_expand.proofs.CallLemmas.{cond_has}
 use Rattle.macro_expand.proofs.TracedLemmas.{IsLine, lines-items_of}
 use Rattle.source_files.specs.Files.{SourceFile, Table}
@@ -212,10 +213,6 @@ params_have P (t ∷ ts) h = elim (cases_Bool (is_name t)) [
 pub record PartsHave (P : Token → Type 0) (m : MacroParts) : Type 0 where
   pub params : AllIn (NameHas P) m.params
   pub body : AllToks P m.body
-
-cond_parts : (b : Bool) (x m : MacroParts) → cond b (Some x) None ≡ Some m → x ≡ m
-cond_parts true x m e = same_Some x m e
-cond_parts false x m e = absurd (none-some m e)
 
 function_has : (P : Token → Type 0) (list : List Token) (o : Option (List Token)) (m : MacroParts) → AllToks P list
     → ((body : List Token) → o ≡ Some body → AllToks P body) → function_macro list o ≡ Some m → PartsHave P m

@@ -1,26 +1,27 @@
 -- Files whose lists stand in runs: their items stay, and each run is the old one in the new order.
-use Rattle.std.proofs.Common.{◌≡◌, ◌<◌, ◌≤◌, ℕ, zero, suc, ◌+◌, ◌-◌, nat_lt, Bool, true, false, cond, List, [], ◌∷◌, length, take, drop, map, Option, Some, None, Ok, Err, refl, ap, sym, subst, ◌∙◌, arith, inl, inr}
+use Rattle.std.proofs.Common.{◌≡◌, ◌≤◌, ℕ, zero, suc, ◌+◌, ◌-◌, nat_lt, Bool, true, false, List, [], ◌∷◌, length, drop, map, Option, Some, Ok, refl, ap, sym, subst, ◌∙◌, arith, inl, inr}
 use Rattle.std.specs.Prelude.{slice_get, slice_range}
 use Rattle.std.specs.Option.{option_and_then}
 use Rattle.std.proofs.lemmas.Bool.{ltb-true, ltb-false}
 use Rattle.std.proofs.lemmas.Option.{none-some, same_Some}
 use Rattle.cs_base.specs.Token.{Token}
-use Rattle.cs_base.specs.Limits.{most_bytes}
+use Rattle.cs_base.proofs.ListLemmas.{get_dropped, get_taken}
 use Rattle.line_shape.specs.Items.{Follow}
 use Rattle.line_shape.specs.declared.items.Item.{Item}
 use Rattle.macro_body.specs.Hides.{toks_of}
 use Rattle.macro_body.specs.Notes as expansion
-use Rattle.lexer.specs.FileText.{TextValue, FileTooLarge, text_value, text_or_open, file_text}
+use Rattle.lexer.specs.FileText.{TextValue, file_text}
 use Rattle.lexer.specs.Order.{InOrder}
-use Rattle.lexer.specs.Tokens.{tokens_of, firsts_of, open_comment_of}
+use Rattle.lexer.specs.Tokens.{tokens_of}
 use Rattle.source_files.specs.Files.{Source, SourceFile, Opened, Made, Entry, entry, Table}
 use Rattle.source_files.specs.KeptFiles.{kept_in}
 use Rattle.source_files.specs.Sources.{read_as, source_at, source_kept}
 use Rattle.unit_steps.specs.State.{State}
 use Rattle.unit_steps.specs.Texts.{UnitTextValue}
 use Rattle.include_tree.specs.Walk.{ItemText, item_text}
-use Rattle.lexer.proofs.OrderLemmas.{tokens_of-in_order}
-use Rattle.line_shape.proofs.CoverLemmas.{Follow-items_of}
+use Rattle.lexer.proofs.OrderLemmas.{tokens_of-in_order, before_of}
+use Rattle.lexer.proofs.TextLemmas.{file_text-toks as text_toks}
+use Rattle.line_shape.proofs.CoverLemmas.{Follow-items_of, Follow-ends as follow_ends}
 use Rattle.list_cuts.specs.Cuts.{Cut, done, IsOrder, arranged, AreOf}
 use Rattle.list_cuts.specs.CutOf.{front, back, is_between, is_free}
 use Rattle.expansion_laws.specs.Arranging.{AreDistinct, in_lists, StandFor, CutsAreOne}
@@ -32,14 +33,6 @@ use Rattle.unit_laws.proofs.ReorderedPartLemmas.{no_list_between}
 use Rattle.unit_laws.proofs.SliceLemmas.{PartStands, part_stands, stand_for}
 
 -- ---- items
-
--- an item has tokens, and they are there
-follow_ends : (from to : ℕ) (items : List Item) → Follow from to items → from ≤ to
-follow_ends from to [] f = omega (arith, f)
-follow_ends from to (i ∷ items) f =
-    let first = f.1 in
-    let rest = follow_ends i.to to items f.2 in
-    omega (arith, first, rest)
 
 follow_within : (from to : ℕ) (items : List Item) → Follow from to items → (it : Item) → IsOf items it → (it.from ≤ it.to) × (it.to ≤ to)
 follow_within from to [] f it at = absurd (none-some it at.1)
@@ -103,25 +96,6 @@ texts_stay = λ order text. record {
 
 -- ---- tokens of a file
 
--- the number of its first character orders the tokens of a file
-order_of : (from to : ℕ) (ts : List Token) → InOrder from to ts → (i : ℕ) (x : Token) → slice_get ts i ≡ Some x → from ≤ x.at.at
-order_of from to [] h i x is = absurd (none-some x is)
-order_of from to (t ∷ ts) h zero x is = subst (λ (y : Token). from ≤ y.at.at) (same_Some t x is) h.0
-order_of from to (t ∷ ts) h (suc i) x is =
-    let rest = order_of (t.at.at + length t.text) to ts h.3 i x is in
-    let first = h.0 in
-    omega (arith, rest, first)
-
-before_of : (from to : ℕ) (ts : List Token) → InOrder from to ts → (i j : ℕ) (x y : Token) → i < j → slice_get ts i ≡ Some x → slice_get ts j ≡ Some y → x.at.at < y.at.at
-before_of from to [] h i j x y lt is is2 = absurd (none-some x is)
-before_of from to (t ∷ ts) h i zero x y lt is is2 = absurd (omega (arith, lt))
-before_of from to (t ∷ ts) h (suc i) (suc j) x y lt is is2 = before_of (t.at.at + length t.text) to ts h.3 i j x y (omega (arith, lt)) is is2
-before_of from to (t ∷ ts) h zero (suc j) x y lt is is2 =
-    let rest = order_of (t.at.at + length t.text) to ts h.3 j y is2 in
-    let some = h.1 in
-    let here : t.at.at < y.at.at = omega (arith, rest, some) in
-    subst (λ (z : Token). z.at.at < y.at.at) (same_Some t x is) here
-
 distinct_of : (from to : ℕ) (ts : List Token) → InOrder from to ts → AreDistinct ts
 distinct_of from to ts h = λ i j t is is2. by i j t is is2 (nat_lt i j) refl (nat_lt j i) refl
   where
@@ -133,49 +107,12 @@ distinct_of from to ts h = λ i j t is is2. by i j t is is2 (nat_lt i j) refl (n
         let le2 = ltb-false j i f in
         omega (arith, le, le2)
 
-get_taken : {X : Type 0} (n : ℕ) (xs : List X) (i : ℕ) (x : X) → slice_get (take n xs) i ≡ Some x → slice_get xs i ≡ Some x
-get_taken zero [] i x is = is
-get_taken zero (y ∷ xs) i x is = absurd (none-some x is)
-get_taken (suc n) [] i x is = is
-get_taken (suc n) (y ∷ xs) zero x is = is
-get_taken (suc n) (y ∷ xs) (suc i) x is = get_taken n xs i x is
-
-get_dropped : {X : Type 0} (n : ℕ) (xs : List X) (i : ℕ) (x : X) → slice_get (drop n xs) i ≡ Some x → slice_get xs (n + i) ≡ Some x
-get_dropped zero xs i x is = let same : 0 + i ≡ i = omega arith in rw same is
-get_dropped (suc n) [] i x is = absurd (none-some x is)
-get_dropped (suc n) (y ∷ xs) i x is = let same : suc n + i ≡ suc (n + i) = omega arith in rw same (get_dropped n xs i x is)
-
 pub distinct_range : (ts : List Token) (from to : ℕ) → AreDistinct ts → AreDistinct (slice_range ts from to)
 distinct_range ts from to h = λ i j t is is2.
     let one = get_dropped from ts i t (get_taken (to - from) (drop from ts) i t is) in
     let two = get_dropped from ts j t (get_taken (to - from) (drop from ts) j t is2) in
     let same = h (from + i) (from + j) t one two in
     omega (arith, same)
-
--- a text that is read has the tokens of the bytes
-pub text_toks : (number : ℕ) (bytes : List ℕ) (text : TextValue) → file_text number bytes ≡ Ok text → text.toks ≡ tokens_of number bytes
-unfolding file_text text_value
-text_toks number bytes text is = by (open_comment_of bytes) (past (nat_lt most_bytes (length bytes)) is)
-  where
-    past : (b : Bool) → cond b (Err FileTooLarge) (text_or_open number bytes (open_comment_of bytes)) ≡ Ok text → text_or_open number bytes (open_comment_of bytes) ≡ Ok text
-    past true e = absurd cc
-    past false e = e
-
-    by : (o : Option ℕ) → text_or_open number bytes o ≡ Ok text → text.toks ≡ tokens_of number bytes
-    by None e = let same : text_value number bytes ≡ text = cc in ap (λ (t : TextValue). t.toks) (sym same)
-    by (Some at) e = absurd cc
-
-pub text_firsts : (number : ℕ) (bytes : List ℕ) (text : TextValue) → file_text number bytes ≡ Ok text → text.firsts ≡ firsts_of bytes
-unfolding file_text text_value
-text_firsts number bytes text is = by (open_comment_of bytes) (past (nat_lt most_bytes (length bytes)) is)
-  where
-    past : (b : Bool) → cond b (Err FileTooLarge) (text_or_open number bytes (open_comment_of bytes)) ≡ Ok text → text_or_open number bytes (open_comment_of bytes) ≡ Ok text
-    past true e = absurd cc
-    past false e = e
-
-    by : (o : Option ℕ) → text_or_open number bytes o ≡ Ok text → text.firsts ≡ firsts_of bytes
-    by None e = let same : text_value number bytes ≡ text = cc in ap (λ (t : TextValue). t.firsts) (sym same)
-    by (Some at) e = absurd cc
 
 pub distinct_text : (number : ℕ) (bytes : List ℕ) (text : TextValue) → file_text number bytes ≡ Ok text → AreDistinct text.toks
 distinct_text number bytes text is =

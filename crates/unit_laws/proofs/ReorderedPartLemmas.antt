@@ -4,14 +4,11 @@ use Rattle.std.specs.Prelude.{nat_le, ◌==◌, ◌&&◌, ◌||◌}
 use Rattle.std.proofs.lemmas.Bool.{le-leb, lt-leb, leb-true, leb-false, eqb-true}
 use Rattle.std.proofs.lemmas.List.{nil_from_length, take-append-le, drop-append-le}
 use Rattle.std.proofs.Math.Seq.{take-append-add, drop-append-add}
+use Rattle.cs_base.proofs.BoolLemmas.{or_last as or_right}
 use Rattle.list_cuts.specs.Cuts.{Cut, done, keep, list, Items, span_of, picked, woven, gaps_of, arranged, items_of, AreOf}
 use Rattle.list_cuts.specs.CutOf.{front, back, is_between}
 use Rattle.expansion_laws.specs.Arranging.{in_lists}
 use Rattle.list_cuts.proofs.CutLemmas.{gaps_of-append, items_of-append}
-
-or_right : (b c : Bool) → c ≡ true → (b || c) ≡ true
-or_right true c h = refl
-or_right false c h = h
 
 pub or_false : (b c : Bool) → b ≡ false → (b || c) ≡ true → c ≡ true
 or_false true c h k = absurd cc

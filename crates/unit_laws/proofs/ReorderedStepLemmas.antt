@@ -1,8 +1,8 @@
 -- Steps of a unit over the files as they were, and over the edited ones.
 use Rattle.std.proofs.Common.{◌≡◌, ℕ, zero, suc, ◌+◌, ◌<◌, ◌≤◌, Bool, true, false, cond, List, [], ◌∷◌, ◌++◌, length, codes, Ok, Err, Some, refl, ap, sym, subst, ◌∙◌, arith, append_assoc}
 use Rattle.std.specs.Prelude.{slice_get}
-use Rattle.std.proofs.lemmas.Option.{none-some}
 use Rattle.cs_base.specs.Token.{Token}
+use Rattle.cs_base.proofs.ListLemmas.{front_at}
 use Rattle.macro_body.specs.declared.definitions.Form.TheVariants as form
 use Rattle.macro_body.specs.declared.definitions.Definition.{Definition}
 use Rattle.macro_body.specs.Defining.{line_macro}
@@ -72,11 +72,6 @@ down_less a b (n ∷ ns) le h = (down_note a b n le h.0, down_less a b ns le h.1
 -- these stand among all tokens from one on
 abbrev pub StandAt : List Token → ℕ → List Token → Type 0
 StandAt all from xs = (m : ℕ) (t : Token) → slice_get xs m ≡ Some t → slice_get all (from + m) ≡ Some t
-
-pub front_at : {X : Type 0} (xs ys : List X) (m : ℕ) (x : X) → slice_get xs m ≡ Some x → slice_get (xs ++ ys) m ≡ Some x
-front_at [] ys m x is = absurd (none-some x is)
-front_at (y ∷ xs) ys zero x is = is
-front_at (y ∷ xs) ys (suc m) x is = front_at xs ys m x is
 
 pub behind_at : {X : Type 0} (xs ys : List X) (m : ℕ) → slice_get (xs ++ ys) (length xs + m) ≡ slice_get ys m
 behind_at [] ys m = let same : 0 + m ≡ m = omega arith in rw same refl

@@ -8,6 +8,7 @@ use Rattle.std.proofs.lemmas.Slice.Eq.{bytes_eq-Decides}
 use Rattle.std.proofs.lemmas.List.{map-append, nil_from_length, length-map}
 use Rattle.cs_base.specs.Token.{Token}
 use Rattle.cs_base.specs.Units.{UnitValue, defines_of}
+use Rattle.cs_base.proofs.ListLemmas.{front_none}
 use Rattle.macro_body.specs.declared.definitions.Form.TheVariants as form
 use Rattle.macro_body.specs.declared.definitions.Definition.{Definition}
 use Rattle.macro_body.specs.Defining.{line_macro, file_macro, first_macros}
@@ -171,10 +172,6 @@ of_back n m (list is c) of = by (nat_le (span_of is) m) (of_back n (m - span_of 
 -- nothing comes to nothing
 pub arranged_none : {X : Type 0} (n : ℕ) (order : List ℕ) (c : Cut) → IsOrder n order → AreOf n c → arranged {X = X} order c [] ≡ []
 arranged_none n order c is of = nil_from_length (arranged order c []) (length-arranged n order c [] is of)
-
-front_none : {X : Type 0} (xs ys : List X) → xs ++ ys ≡ [] → xs ≡ []
-front_none [] ys e = refl
-front_none (x ∷ xs) ys e = absurd cc
 
 -- a cut from its first element on
 pub back_none : {X : Type 0} (n : ℕ) (order : List ℕ) (c : Cut) (xs : List X) → IsOrder n order → AreOf n c → arranged order (back 0 c) xs ≡ arranged order c xs

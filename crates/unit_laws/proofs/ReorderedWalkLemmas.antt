@@ -19,11 +19,13 @@ use Rattle.unit_steps.specs.Notes.{Note, Reaches}
 use Rattle.unit_steps.specs.State.{State, Did, Outcome, only, noted, onward}
 use Rattle.include_tree.specs.Including.{Inner}
 use Rattle.include_tree.specs.Sections.{Group, Processed, Awaited, Over, Skipped, Section, section, are_processed, group_if, group_after, group_of_else, Turn, Opens, GoesOn, GoesLast, Ends, Stays, turn_of}
+use Rattle.include_tree.specs.Asking.{gnu_holds, asks_files, opens_in, goes_in}
 use Rattle.include_tree.specs.Walk.{ItemText, items_in, processed, Stepped, stepped, reaching, reaching_alive, go_on, opens, goes_on, in_section, turned, is_foreign, foreign_line, item_step, file_end, walk, file_items}
 use Rattle.unit_laws.specs.Edited.{edited_state}
 use Rattle.unit_laws.specs.Walking.{IsItemAlike, AreItemsAlike, text_items, KeepsTexts, with_text, IsEdited, IsReachedAt}
-use Rattle.unit_laws.proofs.ReorderedStepLemmas.{World, Still, Goes, Same, Within, itself, up_both, up_more, down_both, down_less, reached_first, reached_later, within_first, within_later, StandAt, stand_front, stand_behind, goes_only, goes_noted, still_then, goes_then, goes_cond, goes_test}
+use Rattle.unit_laws.proofs.ReorderedStepLemmas.{World, Still, Goes, Same, Within, itself, up_both, up_more, down_both, down_less, reached_first, reached_later, within_first, within_later, StandAt, stand_front, stand_behind, goes_only, goes_noted, still_then, still_cond, goes_then, goes_cond, goes_test}
 use Rattle.unit_laws.proofs.OpenLemmas.{ctx, ctx2}
+use Rattle.unit_laws.proofs.ReorderedAskingLemmas.{gnu_goes}
 use Rattle.unit_laws.proofs.LineLemmas.{holds_goes, asks_goes, define_goes, undef_goes, ProcessGoes, InnerGoes, pragma_goes, include_goes, include_next_goes}
 use Rattle.source_files.specs.Tables.{IsGrown}
 use Rattle.source_files.proofs.TableLemmas.{grown_trans}
@@ -198,6 +200,20 @@ module _ (w : World) (runs : RunsToo w) (keeps : KeepsTexts w.edit w.old) (unit 
   goes_with_goes file text kind.Pragma at toks s = holds_goes w file text at (drop 2 toks) s
   goes_with_goes file text kind.Empty at toks s = holds_goes w file text at (drop 2 toks) s
 
+  opens_in_goes : (file : SourceFile) (text : TextValue) (k : ItemKind) (at : Pos) (toks : List Token) (s : State)
+      → Still w Same s (opens_in (ctx w keeps unit earlier) k file at toks s) (opens_in (ctx2 w keeps unit earlier) k (with_text file text) at toks (edited_state w.edit s))
+  opens_in_goes file text k at toks s =
+      still_cond w Same s (asks_files unit.standard k) (gnu_holds (ctx w keeps unit earlier) file at (drop 2 toks) s) (opens_with k file at toks s)
+      (gnu_holds (ctx2 w keeps unit earlier) (with_text file text) at (drop 2 toks) (edited_state w.edit s)) (opens_with k (with_text file text) at toks (edited_state w.edit s))
+      (gnu_goes w keeps unit earlier file text at (drop 2 toks) s) (opens_with_goes file text k at toks s)
+
+  goes_in_goes : (file : SourceFile) (text : TextValue) (k : ItemKind) (at : Pos) (toks : List Token) (s : State)
+      → Still w Same s (goes_in (ctx w keeps unit earlier) k file at toks s) (goes_in (ctx2 w keeps unit earlier) k (with_text file text) at toks (edited_state w.edit s))
+  goes_in_goes file text k at toks s =
+      still_cond w Same s (asks_files unit.standard k) (gnu_holds (ctx w keeps unit earlier) file at (drop 2 toks) s) (goes_with k file at toks s)
+      (gnu_holds (ctx2 w keeps unit earlier) (with_text file text) at (drop 2 toks) (edited_state w.edit s)) (goes_with k (with_text file text) at toks (edited_state w.edit s))
+      (gnu_goes w keeps unit earlier file text at (drop 2 toks) s) (goes_with_goes file text k at toks s)
+
   -- ---- sections
 
   only_goes : (s : State) (sections : List Section) → Goes w step_toks (StepGoes w) s (only (stepped [] sections) s) (only (stepped [] sections) (edited_state w.edit s))
@@ -217,26 +233,26 @@ module _ (w : World) (runs : RunsToo w) (keeps : KeepsTexts w.edit w.old) (unit 
       (λ a b t r. goes_only w step_toks (StepGoes w) t (stepped [] (next a)) (stepped [] (next b)) (ap next r, w.v_none t.before) refl)
 
   opens_goes : (file : SourceFile) (text : TextValue) (k : ℕ) (i : ItemText) (sections : List Section) (s : State)
-      → Goes w step_toks (StepGoes w) s (opens file k i sections s) (opens (with_text file text) k i sections (edited_state w.edit s))
+      → Goes w step_toks (StepGoes w) s (opens (ctx w keeps unit earlier) file k i sections s) (opens (ctx2 w keeps unit earlier) (with_text file text) k i sections (edited_state w.edit s))
   opens_goes file text k i sections s =
       let next : Bool → List Section = λ b. section i.at (group_if b) false ∷ sections in
       goes_cond w step_toks (StepGoes w) s (are_processed sections)
-      (reaching file k (is_if i.kind) s (onward (opens_with i.kind file i.at i.toks s) (λ b t. only (stepped [] (next b)) t)))
+      (reaching file k (is_if i.kind) s (onward (opens_in (ctx w keeps unit earlier) i.kind file i.at i.toks s) (λ b t. only (stepped [] (next b)) t)))
       (only (stepped [] (section i.at Skipped false ∷ sections)) s)
-      (reaching (with_text file text) k (is_if i.kind) (edited_state w.edit s) (onward (opens_with i.kind (with_text file text) i.at i.toks (edited_state w.edit s)) (λ b t. only (stepped [] (next b)) t)))
+      (reaching (with_text file text) k (is_if i.kind) (edited_state w.edit s) (onward (opens_in (ctx2 w keeps unit earlier) i.kind (with_text file text) i.at i.toks (edited_state w.edit s)) (λ b t. only (stepped [] (next b)) t)))
       (only (stepped [] (section i.at Skipped false ∷ sections)) (edited_state w.edit s))
-      (reaching_goes file text k (is_if i.kind) s (onward (opens_with i.kind file i.at i.toks s) (λ b t. only (stepped [] (next b)) t))
-      (onward (opens_with i.kind (with_text file text) i.at i.toks (edited_state w.edit s)) (λ b t. only (stepped [] (next b)) t))
-      (value_then s (opens_with i.kind file i.at i.toks s) (opens_with i.kind (with_text file text) i.at i.toks (edited_state w.edit s)) next (opens_with_goes file text i.kind i.at i.toks s)))
+      (reaching_goes file text k (is_if i.kind) s (onward (opens_in (ctx w keeps unit earlier) i.kind file i.at i.toks s) (λ b t. only (stepped [] (next b)) t))
+      (onward (opens_in (ctx2 w keeps unit earlier) i.kind (with_text file text) i.at i.toks (edited_state w.edit s)) (λ b t. only (stepped [] (next b)) t))
+      (value_then s (opens_in (ctx w keeps unit earlier) i.kind file i.at i.toks s) (opens_in (ctx2 w keeps unit earlier) i.kind (with_text file text) i.at i.toks (edited_state w.edit s)) next (opens_in_goes file text i.kind i.at i.toks s)))
       (only_goes s (section i.at Skipped false ∷ sections))
 
   goes_on_goes : (file : SourceFile) (text : TextValue) (k : ℕ) (i : ItemText) (open_ : Section) (sections : List Section) (s : State) (g : Group)
-      → Goes w step_toks (StepGoes w) s (goes_on file k i open_ sections s g) (goes_on (with_text file text) k i open_ sections (edited_state w.edit s) g)
+      → Goes w step_toks (StepGoes w) s (goes_on (ctx w keeps unit earlier) file k i open_ sections s g) (goes_on (ctx2 w keeps unit earlier) (with_text file text) k i open_ sections (edited_state w.edit s) g)
   goes_on_goes file text k i open_ sections s Awaited =
       let next : Bool → List Section = λ b. section open_.opening (group_if b) false ∷ sections in
-      reaching_goes file text k true s (onward (goes_with i.kind file i.at i.toks s) (λ b t. only (stepped [] (next b)) t))
-      (onward (goes_with i.kind (with_text file text) i.at i.toks (edited_state w.edit s)) (λ b t. only (stepped [] (next b)) t))
-      (value_then s (goes_with i.kind file i.at i.toks s) (goes_with i.kind (with_text file text) i.at i.toks (edited_state w.edit s)) next (goes_with_goes file text i.kind i.at i.toks s))
+      reaching_goes file text k true s (onward (goes_in (ctx w keeps unit earlier) i.kind file i.at i.toks s) (λ b t. only (stepped [] (next b)) t))
+      (onward (goes_in (ctx2 w keeps unit earlier) i.kind (with_text file text) i.at i.toks (edited_state w.edit s)) (λ b t. only (stepped [] (next b)) t))
+      (value_then s (goes_in (ctx w keeps unit earlier) i.kind file i.at i.toks s) (goes_in (ctx2 w keeps unit earlier) i.kind (with_text file text) i.at i.toks (edited_state w.edit s)) next (goes_in_goes file text i.kind i.at i.toks s))
   goes_on_goes file text k i open_ sections s Skipped = only_goes s (section open_.opening Skipped false ∷ sections)
   goes_on_goes file text k i open_ sections s Processed =
       let next : List Section = section open_.opening (group_after Processed) false ∷ sections in
@@ -284,8 +300,8 @@ module _ (w : World) (runs : RunsToo w) (keeps : KeepsTexts w.edit w.old) (unit 
       → Goes w step_toks (StepGoes w) s (turned (ctx w keeps unit earlier) inner file k i sections s turn) (turned (ctx2 w keeps unit earlier) inner2 (with_text file text) k i sections (edited_state w.edit s) turn)
   turned_same inner inner2 goes file text k i sections s other Opens = opens_goes file text k i sections s
   turned_same inner inner2 goes file text k i sections s other GoesOn =
-      in_section_goes file text i GoesOn sections s (λ open_ around. goes_on file k i open_ around s open_.group)
-      (λ open_ around. goes_on (with_text file text) k i open_ around (edited_state w.edit s) open_.group) (λ o around. goes_on_goes file text k i o around s o.group)
+      in_section_goes file text i GoesOn sections s (λ open_ around. goes_on (ctx w keeps unit earlier) file k i open_ around s open_.group)
+      (λ open_ around. goes_on (ctx2 w keeps unit earlier) (with_text file text) k i open_ around (edited_state w.edit s) open_.group) (λ o around. goes_on_goes file text k i o around s o.group)
   turned_same inner inner2 goes file text k i sections s other GoesLast =
       in_section_goes file text i GoesLast sections s (λ open_ around. reaching_alive file k open_.group s (only (go_on open_ (group_of_else open_.group) true around) s))
       (λ open_ around. reaching_alive (with_text file text) k open_.group (edited_state w.edit s) (only (go_on open_ (group_of_else open_.group) true around) (edited_state w.edit s)))

@@ -1,28 +1,16 @@
 -- Lists of a unit stand in the part that a run brings.
-use Rattle.std.proofs.Common.{◌≡◌, ℕ, zero, suc, ◌+◌, ◌-◌, ◌<◌, ◌≤◌, Bool, true, false, cond, List, [], ◌∷◌, length, take, drop, Some, refl, ap, sym, subst, ◌∙◌, arith}
+use Rattle.std.proofs.Common.{◌≡◌, ℕ, suc, ◌+◌, ◌-◌, ◌<◌, ◌≤◌, Bool, true, false, cond, List, length, take, drop, refl, ap, sym, subst, ◌∙◌, arith}
 use Rattle.std.specs.Prelude.{slice_get, nat_le, ◌&&◌, ◌||◌}
 use Rattle.std.proofs.lemmas.Bool.{le-leb, lt-leb, leb-true, leb-false}
 use Rattle.std.proofs.lemmas.List.{drop-drop, drop-take, take-take, length-drop}
 use Rattle.std.proofs.lemmas.Option.{slice_get_within}
 use Rattle.cs_base.specs.Token.{Token}
+use Rattle.cs_base.proofs.ListLemmas.{to_drop as at_drop, at_take}
 use Rattle.line_shape.specs.Signs.{is_open, is_close, is_comma}
 use Rattle.list_cuts.specs.Cuts.{Cut, done, keep, list, Items, ended, item, count_of, span_of}
 use Rattle.list_cuts.specs.CutOf.{front, back}
 use Rattle.expansion_laws.specs.Arranging.{IsSign, SignsStand, ItemsSigned, in_lists}
 use Rattle.unit_laws.proofs.ReorderedPartLemmas.{or_none, and_rest}
-
-at_drop : {X : Type 0} (b k : ℕ) (xs : List X) (x : X) → slice_get xs (b + k) ≡ Some x → slice_get (drop b xs) k ≡ Some x
-at_drop zero k xs x is = let same : 0 + k ≡ k = omega arith in ap (λ (i : ℕ). slice_get xs i) (sym same) ∙ is
-at_drop (suc b) k [] x is = is
-at_drop (suc b) k (y ∷ ys) x is =
-    let same : suc b + k ≡ suc (b + k) = omega arith in
-    at_drop b k ys x (ap (λ (i : ℕ). slice_get (y ∷ ys) i) (sym same) ∙ is)
-
-at_take : {X : Type 0} (n k : ℕ) (xs : List X) (x : X) → k < n → slice_get xs k ≡ Some x → slice_get (take n xs) k ≡ Some x
-at_take zero k xs x lt is = absurd (omega (arith, lt))
-at_take (suc n) k [] x lt is = is
-at_take (suc n) zero (y ∷ ys) x lt is = is
-at_take (suc n) (suc k) (y ∷ ys) x lt is = at_take n k ys x (omega (arith, lt)) is
 
 more_than : (a b : ℕ) → (b ≤ a → ⊥) → a < b
 more_than a b lacks = by (nat_le b a) refl

@@ -31,7 +31,7 @@ use Rattle.source_files.specs.Search.{Header, Searched, candidates_of, behind_of
 use Rattle.source_files.specs.Opening.{Opening, opening}
 use Rattle.include_tree.specs.OpeningStep.{with_opened, open_file}
 use Rattle.unit_steps.specs.Expanding.{expanded_as, expanded_in, most_toks, past_limit, put_out, run_of}
-use Rattle.unit_steps.specs.Conditions.{Piece, Plain, Asks, is_defined, pieces_from, answer_for, is_macro, test_notes, answered, left_over, valued, judged, asked_pieces, holds}
+use Rattle.unit_steps.specs.Conditions.{Piece, Plain, Asks, is_defined, pieces_from, answer_for, is_macro, test_notes, answered, left_over, valued, judged, asked_pieces, asked_toks, holds}
 use Rattle.unit_steps.specs.Directives.{operand_in, define_notes, after_define, defined_as, after_undef, undefined_as, asks_name, opens_with, is_if, goes_with, says_once, with_once, said_once, pragma_of, is_read_once, may_define}
 use Rattle.include_tree.specs.Including.{open_searched, open_header, Process, Inner, left_to, entered, unless_once, included, include_of, include_next_of}
 use Rattle.unit_steps.specs.IncludeNames.{header_or, computed_header, header_named, written_header, next_named}
@@ -40,6 +40,8 @@ use Rattle.source_files.specs.Tables.{IsGrown}
 use Rattle.include_tree.specs.Sections.{Group, Processed, Awaited, Over, Skipped, Section, section, are_processed, group_if, group_after, group_of_else, Turn, Opens, GoesOn, GoesLast, Ends, Stays, turn_of}
 use Rattle.source_files.specs.Sources.{source_at}
 use Rattle.include_tree.specs.Unit.{first_state, outer_file, main_file, both_files, unit_outcome}
+use Rattle.unit_steps.specs.Questions.{Question, Unasked, Looks, Lacks, asks_next, questions_from, found_as}
+use Rattle.include_tree.specs.Asking.{there, is_there, look, looked, gnu_known, gnu_asked, gnu_holds, asks_files, opens_in, goes_in}
 use Rattle.include_tree.specs.Walk.{ItemText, items_in, processed, Stepped, stepped, reaching, reaching_alive, go_on, opens, goes_on, in_section, turned, is_foreign, foreign_line, item_step, file_end, walk, file_items}
 use Rattle.source_files.proofs.TableLemmas.{grown_refl, grown_trans, widens_asked}
 use Rattle.include_tree.proofs.SearchLemmas.{search_wide}
@@ -241,14 +243,16 @@ module _ (R : State → List Note → State → Type 0) (table : Table) (rules :
   judged_goes pre file at toks s =
       goes_test pre (Any {A = Bool}) s (list_any is_defined toks) (fault_at file at cause.DefinedFromMacro) (valued file at toks s (condition toks)) (valued_goes pre file at toks s (condition toks))
 
-  asked_goes : (pre : Type 0) (file : SourceFile) (at : Pos) (s : State) (o : Option (List Piece)) → GoesAny pre s (asked_pieces file at s o)
-  asked_goes pre file at s None = tt
-  asked_goes pre file at s (Some pieces) =
-      then_goes {A = List Token} pre s (Ok (answered pieces s)) (λ toks t. onward (expanded_in false file toks t) (judged file at)) (answered_goes pre pieces s)
-      (λ toks t. then_goes pre t (expanded_in false file toks t) (judged file at) (expanded_goes pre false file toks t) (λ out u. judged_goes pre file at out u))
+  asked_pieces_go : (pre : Type 0) (file : SourceFile) (at : Pos) (s : State) (o : Option (List Piece)) → GoesAny pre s (asked_pieces file at s o)
+  asked_pieces_go pre file at s None = tt
+  asked_pieces_go pre file at s (Some pieces) =
+      then_goes {A = List Token} pre s (Ok (answered pieces s)) (expanded_in false file) (answered_goes pre pieces s) (λ toks t. expanded_goes pre false file toks t)
+
+  asked_goes : (pre : Type 0) (file : SourceFile) (at : Pos) (toks : List Token) (s : State) → GoesAny pre s (asked_toks file at toks s)
+  asked_goes pre file at toks s = asked_pieces_go pre file at s (pieces_from 0 toks)
 
   holds_goes : (pre : Type 0) (file : SourceFile) (at : Pos) (toks : List Token) (s : State) → GoesAny pre s (holds file at toks s)
-  holds_goes pre file at toks s = asked_goes pre file at s (pieces_from 0 toks)
+  holds_goes pre file at toks s = then_goes pre s (asked_toks file at toks s) (judged file at) (asked_goes pre file at toks s) (λ out t. judged_goes pre file at out t)
 
   -- ---- files
 
@@ -411,6 +415,55 @@ module _ (R : State → List Note → State → Type 0) (table : Table) (rules :
     processed_goes inner known pre file kind.Pragma at toks s is = pragma_goes pre (is_gnu unit.standard) file at toks s
     processed_goes inner known pre file kind.Empty at toks s is = nothing_goes pre s
 
+    -- ---- conditions of GNU C
+
+    there_goes : (pre : Type 0) (file : SourceFile) (at : Pos) (s : State) (found : Searched) (o : Option (List ℕ)) → IsGrown s.table found.table → GoesAny pre s (there ctx file at s found o)
+    there_goes pre file at s found None grown =
+        let t : State = record s { table = found.table } in
+        grown_goes pre (Any {A = Bool}) s found.table (only false t) grown (goes_only pre (Any {A = Bool}) t false (λ p. tt))
+    there_goes pre file at s found (Some path) grown =
+        let t : State = record s { table = found.table } in
+        grown_goes pre (Any {A = Bool}) s found.table (onward (open_file ctx (place_in file at) path t) (λ f u. only true u)) grown
+        (goes_onward pre (FileIs table) (Any {A = Bool}) t (open_file ctx (place_in file at) path t) (λ f u. only true u) (open_goes pre (place_in file at) path t)
+        (λ f u. goes_only (pre × FileIs table f) (Any {A = Bool}) u true (λ p. tt)))
+
+    is_there_goes : (pre : Type 0) (file : SourceFile) (at : Pos) (next : Bool) (h : Header) (s : State) → GoesAny pre s (is_there ctx file at next h s)
+    is_there_goes pre file at next h s =
+        let paths = candidates_of next h s.behind file.path unit in
+        let found : Searched = search source paths s.table in
+        there_goes pre file at s found found.path (search_wide source paths s.table).grown
+
+    found_goes : (pre : Type 0) (word : Token) (b : Bool) (s : State) → GoesAny pre s (found_as word b s)
+    found_goes pre word b s = (grown_refl s.table, λ p reach. (tt, rules.quiet (Answered (answer_for word b)) s tt))
+
+    look_goes : (pre : Type 0) (file : SourceFile) (at : Pos) (q : Question) (s : State) → GoesAny pre s (look ctx file at q s)
+    look_goes pre file at (Unasked t) s = goes_only pre (Any {A = Token}) s t (λ p. tt)
+    look_goes pre file at (Looks word operand) s =
+        then_goes pre s (header_or file at operand s (header_of_toks operand)) (λ h t. onward (is_there ctx file at (asks_next word) h t) (found_as word))
+        (or_goes pre file at operand s (header_of_toks operand))
+        (λ h t. then_goes pre t (is_there ctx file at (asks_next word) h t) (found_as word) (is_there_goes pre file at (asks_next word) h t) (λ b u. found_goes pre word b u))
+    look_goes pre file at Lacks s = tt
+
+    looked_goes : (pre : Type 0) (file : SourceFile) (at : Pos) (qs : List Question) (s : State) → GoesAny pre s (looked ctx file at qs s)
+    unfolding looked
+    looked_goes pre file at [] s = goes_only pre (Any {A = List Token}) s [] (λ p. tt)
+    looked_goes pre file at (q ∷ qs) s =
+        then_goes pre s (look ctx file at q s) (λ t u. onward (looked ctx file at qs u) (λ toks v. only (t ∷ toks) v)) (look_goes pre file at q s)
+        (λ t u. then_goes pre u (looked ctx file at qs u) (λ toks v. only (t ∷ toks) v) (looked_goes pre file at qs u) (λ toks v. goes_only pre (Any {A = List Token}) v (t ∷ toks) (λ p. tt)))
+
+    known_goes : (pre : Type 0) (file : SourceFile) (at : Pos) (toks : List Token) (s : State) → GoesAny pre s (gnu_known ctx file at toks s)
+    known_goes pre file at toks s =
+        then_goes pre s (looked ctx file at (questions_from false 0 toks) s) (judged file at) (looked_goes pre file at (questions_from false 0 toks) s) (λ out t. judged_goes pre file at out t)
+
+    gnu_asked_goes : (pre : Type 0) (file : SourceFile) (at : Pos) (toks : List Token) (s : State) → GoesAny pre s (gnu_asked ctx file at toks s)
+    gnu_asked_goes pre file at toks s = then_goes pre s (asked_toks file at toks s) (gnu_known ctx file at) (asked_goes pre file at toks s) (λ out t. known_goes pre file at out t)
+
+    gnu_goes : (pre : Type 0) (file : SourceFile) (at : Pos) (toks : List Token) (s : State) → GoesAny pre s (gnu_holds ctx file at toks s)
+    gnu_goes pre file at toks s =
+        then_goes pre s (looked ctx file at (questions_from true 0 toks) s) (gnu_asked ctx file at) (looked_goes pre file at (questions_from true 0 toks) s) (λ out t. gnu_asked_goes pre file at out t)
+
+    -- ---- sections
+
     opens_with_goes : (pre : Type 0) (k : ItemKind) (file : SourceFile) (at : Pos) (toks : List Token) (s : State) → GoesAny pre s (opens_with k file at toks s)
     opens_with_goes pre kind.If file at toks s = holds_goes pre file at (drop 2 toks) s
     opens_with_goes pre kind.Ifdef file at toks s = asks_goes pre file at (λ b. b) s (operand_in toks)
@@ -450,6 +503,16 @@ module _ (R : State → List Note → State → Type 0) (table : Table) (rules :
     goes_with_goes pre kind.Pragma file at toks s = holds_goes pre file at (drop 2 toks) s
     goes_with_goes pre kind.Empty file at toks s = holds_goes pre file at (drop 2 toks) s
 
+    opens_in_goes : (pre : Type 0) (k : ItemKind) (file : SourceFile) (at : Pos) (toks : List Token) (s : State) → GoesAny pre s (opens_in ctx k file at toks s)
+    opens_in_goes pre k file at toks s =
+        goes_cond pre (Any {A = Bool}) s (asks_files unit.standard k) (gnu_holds ctx file at (drop 2 toks) s) (opens_with k file at toks s)
+        (gnu_goes pre file at (drop 2 toks) s) (opens_with_goes pre k file at toks s)
+
+    goes_in_goes : (pre : Type 0) (k : ItemKind) (file : SourceFile) (at : Pos) (toks : List Token) (s : State) → GoesAny pre s (goes_in ctx k file at toks s)
+    goes_in_goes pre k file at toks s =
+        goes_cond pre (Any {A = Bool}) s (asks_files unit.standard k) (gnu_holds ctx file at (drop 2 toks) s) (goes_with k file at toks s)
+        (gnu_goes pre file at (drop 2 toks) s) (goes_with_goes pre k file at toks s)
+
     -- only lines of these kinds turn so
     turns_no_define : (k : ItemKind) (turn : Turn) → turn_of k ≡ turn → (turn ≡ Stays → ⊥) → is_define k ≡ false
     turns_no_define kind.Define turn is other = absurd (other (sym is))
@@ -482,22 +545,22 @@ module _ (R : State → List Note → State → Type 0) (table : Table) (rules :
     then_only pre s m next h = then_goes pre s m (λ a t. only (next a) t) h (λ a t. only_goes pre t (next a))
 
     opens_goes : (file : SourceFile) (k : ℕ) (i : ItemText) (sections : List Section) (s : State) → is_define i.kind ≡ false
-        → GoesAny (IsItem table file k i) s (opens file k i sections s)
+        → GoesAny (IsItem table file k i) s (opens ctx file k i sections s)
     opens_goes file k i sections s other =
         goes_cond (IsItem table file k i) (Any {A = Stepped}) s (are_processed sections)
-        (reaching file k (is_if i.kind) s (onward (opens_with i.kind file i.at i.toks s) (λ b t. only (stepped [] (section i.at (group_if b) false ∷ sections)) t)))
+        (reaching file k (is_if i.kind) s (onward (opens_in ctx i.kind file i.at i.toks s) (λ b t. only (stepped [] (section i.at (group_if b) false ∷ sections)) t)))
         (only (stepped [] (section i.at Skipped false ∷ sections)) s)
-        (reaching_goes file k i (is_if i.kind) s (onward (opens_with i.kind file i.at i.toks s) (λ b t. only (stepped [] (section i.at (group_if b) false ∷ sections)) t)) other
-        (then_only (IsItem table file k i) s (opens_with i.kind file i.at i.toks s) (λ b. stepped [] (section i.at (group_if b) false ∷ sections))
-        (opens_with_goes (IsItem table file k i) i.kind file i.at i.toks s)))
+        (reaching_goes file k i (is_if i.kind) s (onward (opens_in ctx i.kind file i.at i.toks s) (λ b t. only (stepped [] (section i.at (group_if b) false ∷ sections)) t)) other
+        (then_only (IsItem table file k i) s (opens_in ctx i.kind file i.at i.toks s) (λ b. stepped [] (section i.at (group_if b) false ∷ sections))
+        (opens_in_goes (IsItem table file k i) i.kind file i.at i.toks s)))
         (only_goes (IsItem table file k i) s (stepped [] (section i.at Skipped false ∷ sections)))
 
     goes_on_goes : (file : SourceFile) (k : ℕ) (i : ItemText) (open_ : Section) (sections : List Section) (s : State) (g : Group) → is_define i.kind ≡ false
-        → GoesAny (IsItem table file k i) s (goes_on file k i open_ sections s g)
+        → GoesAny (IsItem table file k i) s (goes_on ctx file k i open_ sections s g)
     goes_on_goes file k i open_ sections s Awaited other =
-        reaching_goes file k i true s (onward (goes_with i.kind file i.at i.toks s) (λ b t. only (go_on open_ (group_if b) false sections) t)) other
-        (then_only (IsItem table file k i) s (goes_with i.kind file i.at i.toks s) (λ b. go_on open_ (group_if b) false sections)
-        (goes_with_goes (IsItem table file k i) i.kind file i.at i.toks s))
+        reaching_goes file k i true s (onward (goes_in ctx i.kind file i.at i.toks s) (λ b t. only (go_on open_ (group_if b) false sections) t)) other
+        (then_only (IsItem table file k i) s (goes_in ctx i.kind file i.at i.toks s) (λ b. go_on open_ (group_if b) false sections)
+        (goes_in_goes (IsItem table file k i) i.kind file i.at i.toks s))
     goes_on_goes file k i open_ sections s Skipped other = only_goes (IsItem table file k i) s (go_on open_ Skipped false sections)
     goes_on_goes file k i open_ sections s Processed other =
         reaching_goes file k i false s (only (go_on open_ (group_after Processed) false sections) s) other (only_goes (IsItem table file k i) s (go_on open_ (group_after Processed) false sections))
@@ -559,7 +622,7 @@ module _ (R : State → List Note → State → Type 0) (table : Table) (rules :
         → GoesAny (IsItem table file k i) s (turned ctx inner file k i sections s turn)
     turned_goes inner known file k i sections s Opens turn = opens_goes file k i sections s (turns_no_define i.kind Opens turn (λ e. absurd (cc)))
     turned_goes inner known file k i sections s GoesOn turn =
-        in_section_goes (IsItem table file k i) s file i GoesOn sections (λ open_ around. goes_on file k i open_ around s open_.group)
+        in_section_goes (IsItem table file k i) s file i GoesOn sections (λ open_ around. goes_on ctx file k i open_ around s open_.group)
         (λ o around. goes_on_goes file k i o around s o.group (turns_no_define i.kind GoesOn turn (λ e. absurd (cc))))
     turned_goes inner known file k i sections s GoesLast turn =
         in_section_goes (IsItem table file k i) s file i GoesLast sections (λ open_ around. reaching_alive file k open_.group s (only (go_on open_ (group_of_else open_.group) true around) s))

@@ -21,6 +21,7 @@ use Rattle.include_tree.specs.Including.{Inner}
 use Rattle.include_tree.specs.Sections.{Group, Processed, Awaited, Over, Skipped, Section, section, are_processed, group_if, group_after, group_of_else, Turn, Opens, GoesOn, GoesLast, Ends, Stays, turn_of}
 use Rattle.unit_steps.specs.Conditions.{holds}
 use Rattle.unit_steps.specs.Directives.{opens_with, goes_with, is_if, says_once, said_once, pragma_of}
+use Rattle.include_tree.specs.Asking.{gnu_holds, opens_in, goes_in}
 use Rattle.include_tree.specs.Walk.{ItemText, items_in, processed, Stepped, stepped, reaching, reaching_alive, go_on, opens, goes_on, in_section, turned, is_foreign, foreign_line, item_step, file_end, walk, file_items}
 use Rattle.expansion_laws.proofs.ListLemmas.{AllToks, each_tok}
 use Rattle.unit_laws.specs.UnitItems.{expanded_name, taken_next, taken}
@@ -29,6 +30,7 @@ use Rattle.unit_laws.proofs.PartLemmas.{toks_both, item_has}
 use Rattle.unit_laws.proofs.ExpandingLemmas.{run_done}
 use Rattle.unit_laws.proofs.DefiningLemmas.{define_done, undef_done, asks_done}
 use Rattle.unit_laws.proofs.ConditionLemmas.{holds_done}
+use Rattle.unit_laws.proofs.AskingLemmas.{gnu_done}
 use Rattle.unit_laws.proofs.IncludeLemmas.{Any, FileIs, ProcessDone, InnerDone, include_done, include_next_done}
 
 abbrev AnyTok : Token → Type 0
@@ -127,6 +129,33 @@ module _ (P : Token → Type 0) (M : Note → Type 0) (table : Table) (rules : U
   opens_with_done kind.Pragma file at toks s = tt
   opens_with_done kind.Empty file at toks s = tt
 
+  -- a condition that is evaluated, in a unit of GNU C
+  condition_done : (k : ItemKind) (file : SourceFile) (at : Pos) (toks : List Token) (s : State) (other : Outcome Bool) → (KindHas k true at toks → AllToks P (drop 2 toks))
+      → Done P M table (KindHas k true at toks) AnyBool s other → Done P M table (KindHas k true at toks) AnyBool s (cond (is_gnu unit.standard) (gnu_holds ctx file at (drop 2 toks) s) other)
+  condition_done k file at toks s other h known =
+      done_cond P M table (KindHas k true at toks) AnyBool s (is_gnu unit.standard) (gnu_holds ctx file at (drop 2 toks) s) other
+      (done_more P M table (AllToks P (drop 2 toks)) (KindHas k true at toks) AnyBool AnyBool s (gnu_holds ctx file at (drop 2 toks) s) h (λ a p k. tt)
+      (gnu_done P M table rules source unit earlier file at (drop 2 toks) s)) known
+
+  opens_in_done : (k : ItemKind) (file : SourceFile) (at : Pos) (toks : List Token) (s : State) → turn_of k ≡ Opens
+      → Done P M table (KindHas k (is_if k) at toks) AnyBool s (opens_in ctx k file at toks s)
+  opens_in_done kind.If file at toks s is = condition_done kind.If file at toks s (opens_with kind.If file at toks s) (λ p. p.0) (opens_with_done kind.If file at toks s)
+  opens_in_done kind.Elif file at toks s is = absurd (cc)
+  opens_in_done (kind.Bad c place nests) file at toks s is = opens_with_done (kind.Bad c place nests) file at toks s
+  opens_in_done (kind.Gnu line) file at toks s is = opens_with_done (kind.Gnu line) file at toks s
+  opens_in_done kind.Run file at toks s is = opens_with_done kind.Run file at toks s
+  opens_in_done kind.Define file at toks s is = opens_with_done kind.Define file at toks s
+  opens_in_done kind.Undef file at toks s is = opens_with_done kind.Undef file at toks s
+  opens_in_done kind.Ifdef file at toks s is = opens_with_done kind.Ifdef file at toks s
+  opens_in_done kind.Ifndef file at toks s is = opens_with_done kind.Ifndef file at toks s
+  opens_in_done kind.Else file at toks s is = opens_with_done kind.Else file at toks s
+  opens_in_done kind.Endif file at toks s is = opens_with_done kind.Endif file at toks s
+  opens_in_done kind.Include file at toks s is = opens_with_done kind.Include file at toks s
+  opens_in_done kind.Line file at toks s is = opens_with_done kind.Line file at toks s
+  opens_in_done kind.Error file at toks s is = opens_with_done kind.Error file at toks s
+  opens_in_done kind.Pragma file at toks s is = opens_with_done kind.Pragma file at toks s
+  opens_in_done kind.Empty file at toks s is = opens_with_done kind.Empty file at toks s
+
   -- what a reached item gives, where it is known that it is reached
   reaching_done : (pre pre2 : Type 0) (file : SourceFile) (k : ℕ) (evaluated : Bool) (s : State) (m : Outcome Stepped) → (pre → M (Reaches file.number k evaluated s.before) → pre2)
       → Done P M table pre2 (SteppedHas P) s m → Done P M table pre (SteppedHas P) s (reaching file k evaluated s m)
@@ -141,15 +170,16 @@ module _ (P : Token → Type 0) (M : Note → Type 0) (table : Table) (rules : U
   then_only {A = A} pre s m next none h =
       done_onward P M table pre (Any {A = A}) (SteppedHas P) s m (λ a t. only (next a) t) h (λ a t. only_done (pre × Any a) t (next a) (λ p. none a))
 
-  opens_done : (file : SourceFile) (k : ℕ) (i : ItemText) (sections : List Section) (s : State) → Done P M table (IsItem file k i) (SteppedHas P) s (opens file k i sections s)
-  opens_done file k i sections s =
+  opens_done : (file : SourceFile) (k : ℕ) (i : ItemText) (sections : List Section) (s : State) → turn_of i.kind ≡ Opens
+      → Done P M table (IsItem file k i) (SteppedHas P) s (opens ctx file k i sections s)
+  opens_done file k i sections s turn =
       done_cond P M table (IsItem file k i) (SteppedHas P) s (are_processed sections)
-      (reaching file k (is_if i.kind) s (onward (opens_with i.kind file i.at i.toks s) (λ b t. only (stepped [] (section i.at (group_if b) false ∷ sections)) t)))
+      (reaching file k (is_if i.kind) s (onward (opens_in ctx i.kind file i.at i.toks s) (λ b t. only (stepped [] (section i.at (group_if b) false ∷ sections)) t)))
       (only (stepped [] (section i.at Skipped false ∷ sections)) s)
-      (reaching_done (IsItem file k i) (KindHas i.kind (is_if i.kind) i.at i.toks) file k (is_if i.kind) s (onward (opens_with i.kind file i.at i.toks s) (λ b t. only (stepped [] (section i.at (group_if b) false ∷ sections)) t))
+      (reaching_done (IsItem file k i) (KindHas i.kind (is_if i.kind) i.at i.toks) file k (is_if i.kind) s (onward (opens_in ctx i.kind file i.at i.toks s) (λ b t. only (stepped [] (section i.at (group_if b) false ∷ sections)) t))
       (λ is told. reached_has file k i (is_if i.kind) s.before is told)
-      (then_only (KindHas i.kind (is_if i.kind) i.at i.toks) s (opens_with i.kind file i.at i.toks s) (λ b. stepped [] (section i.at (group_if b) false ∷ sections)) (λ b. tt)
-      (opens_with_done i.kind file i.at i.toks s)))
+      (then_only (KindHas i.kind (is_if i.kind) i.at i.toks) s (opens_in ctx i.kind file i.at i.toks s) (λ b. stepped [] (section i.at (group_if b) false ∷ sections)) (λ b. tt)
+      (opens_in_done i.kind file i.at i.toks s turn)))
       (only_done (IsItem file k i) s (stepped [] (section i.at Skipped false ∷ sections)) (λ p. tt))
 
   -- only an `elif` line goes on with a section, and in GNU C one that asks for a name
@@ -181,13 +211,32 @@ module _ (P : Token → Type 0) (M : Note → Type 0) (table : Table) (rules : U
   goes_with_done kind.Pragma file at toks s is = absurd (cc)
   goes_with_done kind.Empty file at toks s is = absurd (cc)
 
+  goes_in_done : (k : ItemKind) (file : SourceFile) (at : Pos) (toks : List Token) (s : State) → turn_of k ≡ GoesOn
+      → Done P M table (KindHas k true at toks) AnyBool s (goes_in ctx k file at toks s)
+  goes_in_done kind.Elif file at toks s is = condition_done kind.Elif file at toks s (goes_with kind.Elif file at toks s) (λ p. p.0) (goes_with_done kind.Elif file at toks s is)
+  goes_in_done kind.If file at toks s is = absurd (cc)
+  goes_in_done (kind.Bad c place nests) file at toks s is = goes_with_done (kind.Bad c place nests) file at toks s is
+  goes_in_done (kind.Gnu line) file at toks s is = goes_with_done (kind.Gnu line) file at toks s is
+  goes_in_done kind.Run file at toks s is = goes_with_done kind.Run file at toks s is
+  goes_in_done kind.Define file at toks s is = goes_with_done kind.Define file at toks s is
+  goes_in_done kind.Undef file at toks s is = goes_with_done kind.Undef file at toks s is
+  goes_in_done kind.Ifdef file at toks s is = goes_with_done kind.Ifdef file at toks s is
+  goes_in_done kind.Ifndef file at toks s is = goes_with_done kind.Ifndef file at toks s is
+  goes_in_done kind.Else file at toks s is = goes_with_done kind.Else file at toks s is
+  goes_in_done kind.Endif file at toks s is = goes_with_done kind.Endif file at toks s is
+  goes_in_done kind.Include file at toks s is = goes_with_done kind.Include file at toks s is
+  goes_in_done kind.Line file at toks s is = goes_with_done kind.Line file at toks s is
+  goes_in_done kind.Error file at toks s is = goes_with_done kind.Error file at toks s is
+  goes_in_done kind.Pragma file at toks s is = goes_with_done kind.Pragma file at toks s is
+  goes_in_done kind.Empty file at toks s is = goes_with_done kind.Empty file at toks s is
+
   goes_on_done : (file : SourceFile) (k : ℕ) (i : ItemText) (open_ : Section) (sections : List Section) (s : State) (g : Group) → turn_of i.kind ≡ GoesOn
-      → Done P M table (IsItem file k i) (SteppedHas P) s (goes_on file k i open_ sections s g)
+      → Done P M table (IsItem file k i) (SteppedHas P) s (goes_on ctx file k i open_ sections s g)
   goes_on_done file k i open_ sections s Awaited elif =
-      reaching_done (IsItem file k i) (KindHas i.kind true i.at i.toks) file k true s (onward (goes_with i.kind file i.at i.toks s) (λ b t. only (go_on open_ (group_if b) false sections) t))
+      reaching_done (IsItem file k i) (KindHas i.kind true i.at i.toks) file k true s (onward (goes_in ctx i.kind file i.at i.toks s) (λ b t. only (go_on open_ (group_if b) false sections) t))
       (λ is told. reached_has file k i true s.before is told)
-      (then_only (KindHas i.kind true i.at i.toks) s (goes_with i.kind file i.at i.toks s) (λ b. go_on open_ (group_if b) false sections) (λ b. tt)
-      (goes_with_done i.kind file i.at i.toks s elif))
+      (then_only (KindHas i.kind true i.at i.toks) s (goes_in ctx i.kind file i.at i.toks s) (λ b. go_on open_ (group_if b) false sections) (λ b. tt)
+      (goes_in_done i.kind file i.at i.toks s elif))
   goes_on_done file k i open_ sections s Skipped elif = only_done (IsItem file k i) s (go_on open_ Skipped false sections) (λ p. tt)
   goes_on_done file k i open_ sections s Processed elif =
       reaching_done (IsItem file k i) (Unit {0}) file k false s (only (go_on open_ (group_after Processed) false sections) s) (λ is told. tt) (only_done (Unit {0}) s (go_on open_ (group_after Processed) false sections) (λ p. tt))
@@ -234,9 +283,9 @@ module _ (P : Token → Type 0) (M : Note → Type 0) (table : Table) (rules : U
 
   turned_done : (inner : Inner) → InnerDone P M table rules source unit earlier inner → (file : SourceFile) (k : ℕ) (i : ItemText) (sections : List Section) (s : State) (turn : Turn) → turn_of i.kind ≡ turn
       → Done P M table (IsItem file k i) (SteppedHas P) s (turned ctx inner file k i sections s turn)
-  turned_done inner known file k i sections s Opens turn = opens_done file k i sections s
+  turned_done inner known file k i sections s Opens turn = opens_done file k i sections s turn
   turned_done inner known file k i sections s GoesOn turn =
-      in_section_done (IsItem file k i) s file i GoesOn sections (λ open_ around. goes_on file k i open_ around s open_.group) (λ o around. goes_on_done file k i o around s o.group turn)
+      in_section_done (IsItem file k i) s file i GoesOn sections (λ open_ around. goes_on ctx file k i open_ around s open_.group) (λ o around. goes_on_done file k i o around s o.group turn)
   turned_done inner known file k i sections s GoesLast turn =
       in_section_done (IsItem file k i) s file i GoesLast sections (λ open_ around. reaching_alive file k open_.group s (only (go_on open_ (group_of_else open_.group) true around) s))
       (λ o around. alive_done (IsItem file k i) file k o.group s (go_on o (group_of_else o.group) true around) tt)

@@ -67,7 +67,7 @@ uses-all k text m ps body is h all =
 
 -- ---- one event
 
-one-event : (k : UnitTextValue) (es : List Event) → record k { events = k.events ++ es }
+pub one-event : (k : UnitTextValue) (es : List Event) → record k { events = k.events ++ es }
     ≡ text_of k.toks (k.links ++ []) (k.pasted ++ []) (k.stringized ++ []) (k.header ++ []) (k.answers ++ []) (k.reached ++ []) (k.events ++ es)
 one-event k es =
     sym (λ i. text_of k.toks (append-nil k.links i) (append-nil k.pasted i) (append-nil k.stringized i) (append-nil k.header i) (append-nil k.answers i) (append-nil k.reached i) (k.events ++ es))

@@ -16,10 +16,10 @@ use Rattle.unit_steps.specs.declared.progress.Progress.{Progress}
 use Rattle.source_files.specs.Files.{SourceFile, Table}
 use Rattle.source_files.specs.Faults.{Fault, fault_at}
 use Rattle.unit_steps.specs.Notes.{Left}
-use Rattle.unit_steps.specs.State.{State, Outcome, onward}
+use Rattle.unit_steps.specs.State.{State, Outcome}
 use Rattle.unit_steps.specs.Names.{spelled_in, linked_with, with_name}
 use Rattle.unit_steps.specs.Expanding.{expanded_in}
-use Rattle.unit_steps.specs.Conditions.{Piece, is_defined, pieces_from, answered, left_over, condition_fault, valued, judged, asked_pieces, holds}
+use Rattle.unit_steps.specs.Conditions.{Piece, is_defined, pieces_from, answered, left_over, condition_fault, valued, judged, asked_pieces, asked_toks}
 use Rattle.unit_steps.specs.Texts.{UnitTextValue}
 use Rattle.unit_steps.specs.Keeping.{noted_in, kept_after}
 use Rattle.unit_steps.specs.Moments.{state_in, named_in, with_event}
@@ -74,27 +74,26 @@ judged-value file at toks s t k k2 b none is left =
 -- ---- the condition of a line
 
 pieces-none : (k : UnitTextValue) (file : SourceFile) (at : Pos) (s : State) (o : Option (List Piece)) → asked_kept k (option_map (λ pieces. answered pieces s) o) ≡ None
-    → ◌≡◌ {A = Outcome Bool} (asked_pieces file at s o) (Err (fault_at file at cause.BadDirective))
+    → ◌≡◌ {A = Outcome (List Token)} (asked_pieces file at s o) (Err (fault_at file at cause.BadDirective))
 pieces-none k file at s None e = refl
 pieces-none k file at s (Some pieces) e = absurd (cc)
 
-pub holds-none : (k : UnitTextValue) (file : SourceFile) (at : Pos) (toks : List Token) (s : State) → asked_in k 0 toks s ≡ None
-    → ◌≡◌ {A = Outcome Bool} (holds file at toks s) (Err (fault_at file at cause.BadDirective))
+pub asked-none : (k : UnitTextValue) (file : SourceFile) (at : Pos) (toks : List Token) (s : State) → asked_in k 0 toks s ≡ None
+    → ◌≡◌ {A = Outcome (List Token)} (asked_toks file at toks s) (Err (fault_at file at cause.BadDirective))
 unfolding asked_in
-holds-none k file at toks s e = pieces-none k file at s (pieces_from 0 toks) e
+asked-none k file at toks s e = pieces-none k file at s (pieces_from 0 toks) e
 
 pieces-some : (k k2 : UnitTextValue) (file : SourceFile) (at : Pos) (out : List Token) (s t : State) (o : Option (List Piece))
     → asked_kept k (option_map (λ pieces. answered pieces s) o) ≡ Some (out, t, k2)
-    → kept_after k (asked_pieces file at s o) ≡ kept_after k2 (onward (expanded_in false file out t) (judged file at))
+    → kept_after k (asked_pieces file at s o) ≡ kept_after k2 (expanded_in false file out t)
 pieces-some k k2 file at out s t None e = absurd (cc)
 pieces-some k k2 file at out s t (Some pieces) e =
     let d = answered pieces s in
     let same = same_Some (d.value, d.state, noted_in k d.notes) (out, t, k2) e in
-    kept-onward k k2 (Ok d) (λ (toks : List Token) (u : State). onward (expanded_in false file toks u) (judged file at)) out t
-    (ap (λ (r : List Token × State × UnitTextValue). Ok r) same)
+    kept-onward k k2 (Ok d) (expanded_in false file) out t (ap (λ (r : List Token × State × UnitTextValue). Ok r) same)
 
 -- the operands are answered, and the rest is to be expanded
-pub holds-asked : (k k2 : UnitTextValue) (file : SourceFile) (at : Pos) (toks out : List Token) (s t : State) → asked_in k 0 toks s ≡ Some (out, t, k2)
-    → kept_after k (holds file at toks s) ≡ kept_after k2 (onward (expanded_in false file out t) (judged file at))
+pub asked-some : (k k2 : UnitTextValue) (file : SourceFile) (at : Pos) (toks out : List Token) (s t : State) → asked_in k 0 toks s ≡ Some (out, t, k2)
+    → kept_after k (asked_toks file at toks s) ≡ kept_after k2 (expanded_in false file out t)
 unfolding asked_in
-holds-asked k k2 file at toks out s t e = pieces-some k k2 file at out s t (pieces_from 0 toks) e
+asked-some k k2 file at toks out s t e = pieces-some k k2 file at out s t (pieces_from 0 toks) e

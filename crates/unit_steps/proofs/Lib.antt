@@ -6,6 +6,7 @@ pub mod GoingLemmas
 pub mod DefiningLemmas
 pub mod AnsweringLemmas
 pub mod JudgingLemmas
+pub mod QuestionLemmas
 pub mod BeginningLemmas
 pub mod IncludingLemmas
 pub mod VisitLemmas

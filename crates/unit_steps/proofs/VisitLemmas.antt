@@ -1,23 +1,17 @@
 -- What is kept where a file is entered, left, passed over or read once.
 use Rattle.std.proofs.Common.{◌≡◌, ℕ, Bool, false, List, [], ◌∷◌, ◌++◌, length, Ok, sym, ap, ◌∙◌}
-use Rattle.std.proofs.lemmas.List.{append-nil}
 use Rattle.cs_base.specs.declared.positions.Pos.{Pos}
-use Rattle.unit_steps.specs.declared.events.Event.{Event}
 use Rattle.unit_steps.specs.declared.events.EventKind.TheVariants as kind
 use Rattle.unit_steps.specs.declared.progress.Progress.{Progress}
 use Rattle.source_files.specs.Files.{Table, SourceFile}
 use Rattle.unit_steps.specs.Notes.{Entered, Exited, ReadOnce, once_kind, file_event}
 use Rattle.unit_steps.specs.Directives.{said_once}
-use Rattle.unit_steps.specs.Texts.{UnitTextValue, text_of, reached_in}
+use Rattle.unit_steps.specs.Texts.{UnitTextValue, reached_in}
 use Rattle.unit_steps.specs.Keeping.{noted_in, put_in, put_after}
 use Rattle.unit_steps.specs.State.{State, only}
 use Rattle.unit_steps.specs.Moments.{state_in}
 use Rattle.unit_steps.proofs.KeepingLemmas.{noted_in-nil, put-nil}
-
-only-events : (k : UnitTextValue) (es : List Event) → record k { events = k.events ++ es }
-    ≡ text_of k.toks (k.links ++ []) (k.pasted ++ []) (k.stringized ++ []) (k.header ++ []) (k.answers ++ []) (k.reached ++ []) (k.events ++ es)
-only-events k es =
-    sym (λ i. text_of k.toks (append-nil k.links i) (append-nil k.pasted i) (append-nil k.stringized i) (append-nil k.header i) (append-nil k.answers i) (append-nil k.reached i) (k.events ++ es))
+use Rattle.unit_steps.proofs.DefiningLemmas.{one-event as only-events}
 
 pub event-entered : (k : UnitTextValue) (at : Pos) (n b : ℕ) → record k { events = k.events ++ file_event kind.Enter at n b ∷ [] } ≡ noted_in k (Entered at n b ∷ [])
 unfolding reached_in

@@ -126,12 +126,15 @@ judged file at toks s =
     if list_any is_defined toks then Err (fault_at file at cause.DefinedFromMacro)
     else valued file at toks s (condition toks)
 
--- the same of its pieces
-abbrev pub asked_pieces : SourceFile → Pos → State → Option (List Piece) → Outcome Bool
+-- the tokens that its pieces are expanded to
+abbrev pub asked_pieces : SourceFile → Pos → State → Option (List Piece) → Outcome (List Token)
 asked_pieces file at s None = Err (fault_at file at cause.BadDirective)
-asked_pieces file at s (Some pieces) =
-    onward (Ok (answered pieces s)) (λ toks t. onward (expanded_in false file toks t) (judged file at))
+asked_pieces file at s (Some pieces) = onward (Ok (answered pieces s)) (expanded_in false file)
+
+-- a condition with its operands of `defined` answered, expanded
+abbrev pub asked_toks : SourceFile → Pos → List Token → State → Outcome (List Token)
+asked_toks file at toks s = asked_pieces file at s (pieces_from 0 toks)
 
 -- the condition of an `if` or `elif` line whose `#` is there, given by the tokens behind its word
 abbrev pub holds : SourceFile → Pos → List Token → State → Outcome Bool
-holds file at toks s = asked_pieces file at s (pieces_from 0 toks)
+holds file at toks s = onward (asked_toks file at toks s) (judged file at)

@@ -4,6 +4,7 @@ pub mod State
 pub mod Expanding
 pub mod Names
 pub mod Conditions
+pub mod Questions
 pub mod Directives
 pub mod IncludeNames
 pub mod Texts

@@ -7,9 +7,7 @@ ghost use Rattle.cs_base.specs.Token.{Token};
 ghost use Rattle.source_files.specs.Below.line_shape.Signs.{is_open, is_name, is_close};
 ghost use Rattle.macro_expand.specs.Below.macro_body.Sound.{is_traced, is_low};
 ghost use Rattle.source_files.specs.Files.{Table};
-ghost use Rattle.unit_steps.specs.State.{onward};
-ghost use Rattle.unit_steps.specs.Expanding.{expanded_in};
-ghost use Rattle.unit_steps.specs.Conditions.{is_defined, in_parentheses, operand_of, digit_of, digit_place, answer_for, is_macro, left_over, place_or, condition_fault, judged, holds};
+ghost use Rattle.unit_steps.specs.Conditions.{is_defined, in_parentheses, operand_of, digit_of, digit_place, answer_for, is_macro, left_over, place_or, condition_fault, judged, asked_toks, holds};
 ghost use Rattle.source_files.specs.Answers.{fault_of, IsNoReadFault};
 ghost use Rattle.unit_steps.specs.Keeping.{noted_in, kept_after};
 ghost use Rattle.unit_steps.specs.Answering.{answer_notes, asked_in, behind, left_kept};
@@ -83,7 +81,7 @@ fn digit_place(b: bool) -> u32
 }
 
 // The number that stands for `defined` and its operand.
-fn answer_for(alloc: Global, word: &Tok, known: bool) -> Result<Tok, Memory>
+pub(crate) fn answer_for(alloc: Global, word: &Tok, known: bool) -> Result<Tok, Memory>
     ensures { IfOk result (λ t. t ≡ answer_for word.now known) }
 {
     let origin = Pos {
@@ -223,8 +221,8 @@ impl Progress {
         Ok(())
     }
 
-    // The value of a condition that was expanded to these tokens.
-    fn judged(&mut self, file: &SourceText, at: Pos, toks: &[Tok]) -> Result<bool, PreFault>
+    /// The value of a condition that was expanded to these tokens.
+    pub fn judged(&mut self, file: &SourceText, at: Pos, toks: &[Tok]) -> Result<bool, PreFault>
         requires few { length toks.now < 2 ^ 32 }
         requires able { IsAble self.old }
         ensures goes_on { GoesOn self.old self.new result }
@@ -243,16 +241,25 @@ impl Progress {
         }
     }
 
-    // The value of a condition whose operands of `defined` are answered.
-    fn valued(&mut self, file: &SourceText, at: Pos, toks: &[Tok]) -> Result<bool, PreFault>
+    /// The tokens to which a condition expands once its operands of `defined` are answered, given by the tokens behind its
+    /// word.
+    pub fn asked_toks(
+        &mut self,
+        file: &SourceText,
+        at: Pos,
+        toks: &[Tok],
+    ) -> Result<Vec<Tok>, PreFault>
         requires sound { IsTrue (list_all (λ t. is_traced t && is_low t) toks.now) }
         requires able { IsAble self.old }
         ensures goes_on { GoesOn self.old self.new result }
+        ensures few { IfOk result (λ out. length out.items < 2 ^ 32) }
         ensures no_read { IfErr result IsNoReadFault }
-        ensures answer { (table : Table) → Gives (λ b. (b, state_in table self.new, self.new.text)) fault_of result (kept_after self.old.text (onward (expanded_in false (source_in file.now) toks.now (state_in table self.old)) (judged (source_in file.now) at))) }
+        ensures answer { (table : Table) → Gives (λ out. (out.items, state_in table self.new, self.new.text)) fault_of result (kept_after self.old.text (asked_toks (source_in file.now) at toks.now (state_in table self.old))) }
     {
-        let out = self.expanded(file, false, toks)?;
-        self.judged(file, at, out.as_slice())
+        match self.answered(toks)? {
+            None => Err(file.fault(self.alloc, at, Cause::BadDirective)),
+            Some(asked) => self.expanded(file, false, asked.as_slice()),
+        }
     }
 
     /// The condition of an `if` or `elif` line whose `#` is there, given by the tokens behind its word.
@@ -263,9 +270,7 @@ impl Progress {
         ensures no_read { IfErr result IsNoReadFault }
         ensures answer { (table : Table) → Gives (λ b. (b, state_in table self.new, self.new.text)) fault_of result (kept_after self.old.text (holds (source_in file.now) at toks.now (state_in table self.old))) }
     {
-        match self.answered(toks)? {
-            None => Err(file.fault(self.alloc, at, Cause::BadDirective)),
-            Some(asked) => self.valued(file, at, asked.as_slice()),
-        }
+        let out = self.asked_toks(file, at, toks)?;
+        self.judged(file, at, out.as_slice())
     }
 }

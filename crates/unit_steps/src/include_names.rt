@@ -99,8 +99,8 @@ impl Progress {
         self.header_or(file, at, &out)
     }
 
-    // The header of the tokens that it is expanded to.
-    fn header_or(&mut self, file: &SourceText, at: Pos, out: &[Tok]) -> Result<Header, PreFault>
+    /// The header of the tokens that it is expanded to, or of those with which a condition asks for one.
+    pub fn header_or(&mut self, file: &SourceText, at: Pos, out: &[Tok]) -> Result<Header, PreFault>
         requires able { IsAble self.old }
         ensures goes_on { GoesOn self.old self.new result }
         ensures no_read { IfErr result IsNoReadFault }

@@ -3,10 +3,11 @@
 //! `Progress` is what is known of a unit at each moment beside the table of files: the macros that are defined, the
 //! work that is left, the first names of each spelling, and the `UnitText` so far, with all that happened. Its calls
 //! are the steps: a run of text lines, lines that define macros or take them away, conditions with their operands of
-//! `defined`, and the name of an include line. Each is a step of the definition in `specs/State.antt`, and what
-//! happens in it is a list of `specs/Notes.antt`. Which lines are processed, and in which order, is `include_tree`.
-//! Every step wants memory. Read `specs/Notes.antt`, `specs/State.antt`, `specs/Conditions.antt`,
-//! `specs/Directives.antt` and `specs/IncludeNames.antt`, then `progress.rt`, `conditions.rt` and `directives.rt`.
+//! `defined` and the words with which GNU C asks for headers, and the name of an include line. Each is a step of the
+//! definition in `specs/State.antt`, and what happens in it is a list of `specs/Notes.antt`. Which lines are processed,
+//! and in which order, is `include_tree`. Every step wants memory. Read `specs/Notes.antt`, `specs/State.antt`,
+//! `specs/Conditions.antt`, `specs/Questions.antt`, `specs/Directives.antt` and `specs/IncludeNames.antt`, then
+//! `progress.rt`, `conditions.rt`, `questions.rt` and `directives.rt`.
 #![tactic(auto)]
 
 mod beginning;
@@ -16,6 +17,7 @@ mod events;
 mod first_names;
 mod include_names;
 mod progress;
+mod questions;
 mod source_text;
 mod unit_text;
 mod visits;
@@ -25,5 +27,6 @@ pub use events::{Event, EventKind, Reached};
 pub use first_names::FirstNames;
 pub use macro_expand::{push_shared, shared};
 pub use progress::Progress;
+pub use questions::{Question, asks_next, questions_of};
 pub use source_text::SourceText;
 pub use unit_text::UnitText;

@@ -4,6 +4,7 @@ use Rattle.std.specs.Prelude.{MatchBool, ◌&&◌, nat_eq}
 use Rattle.std.proofs.lemmas.Bool.{and_parts, eqb-true, eq-eqb}
 use Rattle.std.proofs.lemmas.Option.{none-some}
 use Rattle.cs_base.specs.declared.positions.Part.{Part}
+use Rattle.cs_base.proofs.PlaceLemmas.{part_of_parts}
 use Rattle.eclass_map.specs.ClassTable.{Table, class_in}
 use Rattle.eclass_map.specs.Positions.{holds}
 use Rattle.eclass_map.proofs.TokenFacts.{holds_from}
@@ -16,12 +17,6 @@ use Rattle.class_marks.proofs.AnswerLemmas.{told}
 use Rattle.unseen_names.specs.Unseen.{is_same}
 
 -- ---- where a part stands
-
-part_of_parts : (p q : Part) → p.start.file ≡ q.start.file → p.start.at ≡ q.start.at → p.len ≡ q.len → p ≡ q
-part_of_parts p q e f g =
-    ap (λ (n : ℕ). record { start = record { file = n; at = p.start.at }; len = p.len }) e
-    ∙ ap (λ (n : ℕ). record { start = record { file = q.start.file; at = n }; len = p.len }) f
-    ∙ ap (λ (n : ℕ). record { start = q.start; len = n }) g
 
 pub same_part : (p q : Part) → is_same p q ≡ true → p ≡ q
 same_part p q passed =

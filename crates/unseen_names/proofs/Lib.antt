@@ -1,3 +1,7 @@
+pub mod CharacterLemmas
+pub mod SwapLemmas
+pub mod GroupLemmas
+pub mod NameLemmas
 pub mod WalkLemmas
 pub mod ClassLemmas
 pub mod ProcessedLemmas

@@ -1,45 +1,34 @@
--- Positions that tokens of units come from: one character, one unit after another.
-use Rattle.std.proofs.Common.{◌≡◌, ℕ, ◌+◌, ◌<◌, ◌≤◌, Bool, true, false, true≢false, List, length, take, get_or, slice_get, Option, Some, None, refl, sym, ap, ◌∙◌}
-use Rattle.std.specs.Prelude.{MatchBool}
+-- Characters that tokens of units come from, one unit after another.
+use Rattle.std.proofs.Common.{◌≡◌, ℕ, ◌+◌, Bool, List, take, get_or, slice_get, Some, sym, ap, ◌∙◌}
 use Rattle.std.specs.List.{list_any}
-use Rattle.std.proofs.lemmas.List.{take_all}
-use Rattle.std.proofs.lemmas.List.Folds.{list_any_at, list_any_more}
-use Rattle.std.proofs.lemmas.Option.{slice_get-get_or, slice_get_within, get_or_from_slice_get}
-use Rattle.cs_base.specs.declared.positions.Pos.{Pos}
-use Rattle.cs_base.specs.Token.{Token, origin_at}
+use Rattle.std.proofs.lemmas.Option.{slice_get_within, get_or_from_slice_get}
+use Rattle.cs_base.specs.Token.{Token}
 use Rattle.analysis.specs.Below.unit_steps.Texts.{UnitTextValue}
+use Rattle.analysis.specs.Below.scope_bind.declared.bound.Name.{Name}
 use Rattle.analysis.specs.Analysis.{UnitAnalysis}
-use Rattle.unseen_names.specs.Unseen.{comes_from, is_in_unit, stands_at}
+use Rattle.unseen_names.specs.declared.names.Group.{Group}
+use Rattle.unseen_names.specs.Characters.{Adds}
+use Rattle.unseen_names.specs.Groups.{in_names, in_unit}
+use Rattle.unseen_names.specs.Unseen.{comes_from, is_in_unit}
+use Rattle.unseen_names.proofs.CharacterLemmas.{adds_more, adds_same}
 
-module _ (p : Pos) (t : Token) (k : ℕ) where
-  origin_is : k < length t.origins → origin_at t k ≡ get_or t.origins k None
-  origin_is within = rw (slice_get-get_or t.origins k None within) refl
+module _ (units : List UnitAnalysis) (k : ℕ) (u : UnitAnalysis) (at : slice_get units k ≡ Some u) (old mid new : List (List Bool)) where
+  -- one unit more, of which these are the tokens
+  pub unit_more : (text : UnitTextValue) (toks : List Token) → u.text ≡ text → toks ≡ text.toks
+      → Adds (λ p. list_any (is_in_unit p) (take k units)) old mid → Adds (λ p. list_any (comes_from p) toks) mid new
+      → Adds (λ p. list_any (is_in_unit p) (take (k + 1) units)) old new
+  unit_more text toks same are before here =
+      let toks-are : u.text.toks ≡ toks = ap (λ (t : UnitTextValue). t.toks) same ∙ sym are in
+      adds_more (λ p v. is_in_unit p v) units k u old mid new (slice_get_within units k u at) before
+      (adds_same (λ p. list_any (comes_from p) toks) (λ p. is_in_unit p (get_or units k u)) mid new here
+      (λ p. sym (ap (is_in_unit p) (get_or_from_slice_get units k u u at) ∙ ap (list_any (comes_from p)) toks-are)))
 
-  pub origin_here : k < length t.origins → stands_at p (origin_at t k) ≡ true → comes_from p t ≡ true
-  origin_here within here = list_any_at (stands_at p) t.origins k None within (ap (stands_at p) (sym (origin_is within)) ∙ here)
-
-  pub origin_still : k < length t.origins → stands_at p (origin_at t k) ≡ false → list_any (stands_at p) (take k t.origins) ≡ false
-      → list_any (stands_at p) (take (k + 1) t.origins) ≡ false
-  origin_still within here before =
-      list_any_more (stands_at p) t.origins k None within ∙ rw before (ap (stands_at p) (sym (origin_is within)) ∙ here)
-
-  pub origins_none : length t.origins ≤ k → list_any (stands_at p) (take k t.origins) ≡ false → comes_from p t ≡ false
-  origins_none past before = ap (list_any (stands_at p)) (sym (take_all k t.origins past)) ∙ before
-
-module _ (p : Pos) (units : List UnitAnalysis) (k : ℕ) (u : UnitAnalysis) (text : UnitTextValue) (at : slice_get units k ≡ Some u) (same : u.text ≡ text) where
-  unit-is : is_in_unit p (get_or units k u) ≡ list_any (comes_from p) text.toks
-  unit-is = ap (is_in_unit p) (get_or_from_slice_get units k u u at) ∙ ap (λ (t : UnitTextValue). list_any (comes_from p) t.toks) same
-
-  pub unit_here : list_any (comes_from p) text.toks ≡ true → list_any (is_in_unit p) units ≡ true
-  unit_here here = list_any_at (is_in_unit p) units k u (slice_get_within units k u at) (unit-is ∙ here)
-
-  pub unit_still : list_any (comes_from p) text.toks ≡ false → list_any (is_in_unit p) (take k units) ≡ false → list_any (is_in_unit p) (take (k + 1) units) ≡ false
-  unit_still here before = list_any_more (is_in_unit p) units k u (slice_get_within units k u at) ∙ rw before (unit-is ∙ here)
-
-pub units_none : (p : Pos) (units : List UnitAnalysis) (k : ℕ) → length units ≤ k → list_any (is_in_unit p) (take k units) ≡ false
-    → list_any (is_in_unit p) units ≡ false
-units_none p units k past before = ap (list_any (is_in_unit p)) (sym (take_all k units past)) ∙ before
-
-pub so_or_not : (r b : Bool) → r ≡ b → MatchBool r (b ≡ true) (b ≡ true → ⊥)
-so_or_not true b e = sym e
-so_or_not false b e = λ h. true≢false (sym h ∙ sym e)
+  -- one unit more, of which these are the text and the names
+  pub names_more : (g : Group) (text : UnitTextValue) (names : List Name) → u.text ≡ text → u.bound.names ≡ names
+      → Adds (λ p. list_any (in_unit g p) (take k units)) old mid → Adds (λ p. in_names g p text names) mid new
+      → Adds (λ p. list_any (in_unit g p) (take (k + 1) units)) old new
+  names_more g text names same are before here =
+      adds_more (λ p v. in_unit g p v) units k u old mid new (slice_get_within units k u at) before
+      (adds_same (λ p. in_names g p text names) (λ p. in_unit g p (get_or units k u)) mid new here
+      (λ p. sym (ap (in_unit g p) (get_or_from_slice_get units k u u at) ∙ ap (λ (t : UnitTextValue). in_names g p t u.bound.names) same
+      ∙ ap (in_names g p text) are)))

@@ -5,55 +5,12 @@ use Rattle.std.specs.List.{list_any}
 use Rattle.std.proofs.lemmas.Bool.{cases_Bool, and_parts, and_from, eqb-true, eq-eqb, ltb-true, lt-ltb, false_from_ne_true}
 use Rattle.cs_base.specs.declared.positions.Part.{Part}
 use Rattle.cs_base.specs.declared.positions.Pos.{Pos}
-use Rattle.analysis.specs.Below.c_types.declared.entity.EntityKind.{EntityKind}
-use Rattle.analysis.specs.Below.c_types.declared.entity.EntityKind.TheVariants as kind
+use Rattle.cs_base.proofs.ListLemmas.{any_at as any_from}
 use Rattle.analysis.specs.Analysis.{AnalysisValue}
 use Rattle.analysis.specs.Parts.{AreMembers, IsMember}
 use Rattle.analysis.proofs.NamingLemmas.{any_in}
-use Rattle.analysis.proofs.PlaceNameLemmas.{any_from}
 use Rattle.class_marks.proofs.AnswerLemmas.{told}
-use Rattle.class_marks.specs.declared.roles.Role.{Role}
-use Rattle.class_marks.specs.declared.roles.Role.TheVariants as role
-use Rattle.class_marks.specs.Touching.{HasRole}
-use Rattle.unseen_names.specs.Reach.{IsWide, IsBetween, are_around, begins_before, begins_behind, is_elsewhere, is_wide_kind, is_wide_role}
-
--- ---- names that reach past a function
-
-module _ (a : AnalysisValue) (part : Part) where
-  abbrev pub HasNot : Role → Type 0
-  HasNot r = HasRole a r part → ⊥
-
-  kind_not : HasNot (role.OfKind kind.Member) → HasNot (role.OfKind kind.Function) → HasNot (role.OfKind kind.Typedef)
-      → HasNot (role.OfKind kind.Enumerator) → HasNot (role.OfKind kind.Tag) → (k : EntityKind) → is_wide_kind k ≡ true → HasNot (role.OfKind k)
-  kind_not member function typedef enumerator tag kind.Object is = absurd (cc)
-  kind_not member function typedef enumerator tag kind.Function is = function
-  kind_not member function typedef enumerator tag kind.Typedef is = typedef
-  kind_not member function typedef enumerator tag kind.Parameter is = absurd (cc)
-  kind_not member function typedef enumerator tag kind.Enumerator is = enumerator
-  kind_not member function typedef enumerator tag kind.Tag is = tag
-  kind_not member function typedef enumerator tag kind.Member is = member
-  kind_not member function typedef enumerator tag kind.Label is = absurd (cc)
-
-  role_not : HasNot role.External → HasNot role.Defines → ((k : EntityKind) → is_wide_kind k ≡ true → HasNot (role.OfKind k))
-      → (r : Role) → is_wide_role r ≡ true → HasNot r
-  role_not external defines kinds role.Declares is = absurd (cc)
-  role_not external defines kinds role.Uses is = absurd (cc)
-  role_not external defines kinds role.Defines is = defines
-  role_not external defines kinds (role.OfKind k) is = kinds k is
-  role_not external defines kinds role.External is = external
-
-  not_wide : HasNot role.External → HasNot role.Defines → HasNot (role.OfKind kind.Member) → HasNot (role.OfKind kind.Function)
-      → HasNot (role.OfKind kind.Typedef) → HasNot (role.OfKind kind.Enumerator) → HasNot (role.OfKind kind.Tag) → IsWide a part → ⊥
-  not_wide external defines member function typedef enumerator tag x =
-      role_not external defines (kind_not member function typedef enumerator tag) x.role x.wide x.has
-
-  -- the last of them is asked, and none before was so
-  pub wide_told : (is : Bool) → HasNot role.External → HasNot role.Defines → HasNot (role.OfKind kind.Member) → HasNot (role.OfKind kind.Function)
-      → HasNot (role.OfKind kind.Typedef) → HasNot (role.OfKind kind.Enumerator)
-      → MatchBool is (HasRole a (role.OfKind kind.Tag) part) (HasNot (role.OfKind kind.Tag)) → MatchBool is (IsWide a part) (IsWide a part → ⊥)
-  wide_told true external defines member function typedef enumerator has = record { role = role.OfKind kind.Tag; wide = refl; has = has }
-  wide_told false external defines member function typedef enumerator not_tag =
-      not_wide external defines member function typedef enumerator not_tag
+use Rattle.unseen_names.specs.Reach.{IsBetween, are_around, begins_before, begins_behind, is_elsewhere}
 
 -- ---- between members
 

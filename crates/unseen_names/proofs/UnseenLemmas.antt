@@ -12,7 +12,7 @@ use Rattle.analysis.specs.Spellings.{spelling_of}
 use Rattle.class_marks.specs.Keeping.{Keeps, nothing, taken, skipped}
 use Rattle.class_marks.proofs.KeepLemmas.{keeps_all, keeps_each}
 use Rattle.unseen_names.specs.Reach.{ReachesStart}
-use Rattle.unseen_names.specs.Unseen.{IsOther, IsIdle, IsUnseen, AreUnseen}
+use Rattle.unseen_names.specs.Unseen.{IsOther, IsIdle, IsUnprocessed, IsUnstated, IsUnseen, AreUnseen}
 use Rattle.unseen_names.specs.Words.{words_of}
 
 -- ---- what is kept
@@ -40,33 +40,49 @@ moved xs ys p k x at =
     let there : Contains ys x = Contains-permutation xs ys x p (k, slice_get_within xs k x at, get_or_from_slice_get xs k x x at) in
     (there.0, slice_get-get_or ys there.0 x there.1 ∙ ap Some there.2)
 
+-- what is kept of what is kept
+pub keeps_both : {X : Type 0} (P Q R : X → Type 0) → ((x : X) → P x → Q x → R x) → ((x : X) → R x → P x) → ((x : X) → R x → Q x)
+    → (xs ys zs : List X) → Keeps P xs ys → Keeps Q ys zs → Keeps R xs zs
+keeps_both P Q R both first second xs ys zs (skipped {x = x} {xs = us} not rest) other =
+    skipped (λ r. not (first x r)) (keeps_both P Q R both first second us ys zs rest other)
+keeps_both P Q R both first second xs ys zs nothing nothing = nothing
+keeps_both P Q R both first second xs ys zs (taken {x = x} {xs = us} {ys = vs} here rest) (taken {ys = ws} there more) =
+    taken (both x here there) (keeps_both P Q R both first second us vs ws rest more)
+keeps_both P Q R both first second xs ys zs (taken {x = x} {xs = us} {ys = vs} here rest) (skipped not more) =
+    skipped (λ r. not (second x r)) (keeps_both P Q R both first second us vs zs rest more)
+
+pub keeps_idle : (a : AnalysisValue) (xs ys zs : List Part) → Keeps (IsUnprocessed a) xs ys → Keeps (IsUnstated a) ys zs → Keeps (IsIdle a) xs zs
+keeps_idle a xs ys zs apart stated =
+    keeps_both (IsUnprocessed a) (IsUnstated a) (IsIdle a) (λ x p s. record { undeclared = s.undeclared; unused = s.unused; unprocessed = p })
+    (λ x i. i.unprocessed) (λ x i. record { undeclared = i.undeclared; unused = i.unused }) xs ys zs apart stated
+
 -- ---- all
 
-module _ (a : AnalysisValue) (part : Part) (others reached idle places : List Part)
-    (other : Keeps (IsOther a part) (words_of a (spelling_of a part)) others) (reaches : Keeps (ReachesStart a part) others reached)
-    (idles : Keeps (IsIdle a) reached idle) (permuted : IsPermutation idle places) (sorted : IsStrictlySortedBy (part_cmp a) places) where
-  is_unseen : (k : ℕ) (place : Part) → slice_get idle k ≡ Some place → IsUnseen a part place
+module _ (a : AnalysisValue) (part : Part) (others idle reached places : List Part)
+    (other : Keeps (IsOther a part) (words_of a (spelling_of a part)) others) (idles : Keeps (IsIdle a) others idle)
+    (reaches : Keeps (ReachesStart a part) idle reached) (permuted : IsPermutation reached places) (sorted : IsStrictlySortedBy (part_cmp a) places) where
+  is_unseen : (k : ℕ) (place : Part) → slice_get reached k ≡ Some place → IsUnseen a part place
   is_unseen k place at =
-      let in_reached = keeps_from (IsIdle a) reached idle idles k place at in
-      let in_others = keeps_from (ReachesStart a part) others reached reaches in_reached.0 place in_reached.1 in
+      let in_idle = keeps_from (ReachesStart a part) idle reached reaches k place at in
+      let in_others = keeps_from (IsIdle a) others idle idles in_idle.0 place in_idle.1 in
       record {
         word = keeps_from (IsOther a part) (words_of a (spelling_of a part)) others other in_others.0 place in_others.1;
         other = keeps_each (IsOther a part) (words_of a (spelling_of a part)) others other in_others.0 place in_others.1;
-        idle = keeps_each (IsIdle a) reached idle idles k place at;
-        reached = keeps_each (ReachesStart a part) others reached reaches in_reached.0 place in_reached.1;
+        idle = keeps_each (IsIdle a) others idle idles in_idle.0 place in_idle.1;
+        reached = keeps_each (ReachesStart a part) idle reached reaches k place at;
       }
 
-  unseen_is : (place : Part) → IsUnseen a part place → (k : ℕ) × (slice_get idle k ≡ Some place)
+  unseen_is : (place : Part) → IsUnseen a part place → (k : ℕ) × (slice_get reached k ≡ Some place)
   unseen_is place u =
       let in_others = keeps_all (IsOther a part) (words_of a (spelling_of a part)) others other u.word.0 place u.word.1 u.other in
-      let in_reached = keeps_all (ReachesStart a part) others reached reaches in_others.0 place in_others.1 u.reached in
-      keeps_all (IsIdle a) reached idle idles in_reached.0 place in_reached.1 u.idle
+      let in_idle = keeps_all (IsIdle a) others idle idles in_others.0 place in_others.1 u.idle in
+      keeps_all (ReachesStart a part) idle reached reaches in_idle.0 place in_idle.1 u.reached
 
   pub are_unseen : AreUnseen a part places
   are_unseen = record {
     each = λ k place at.
-        let was = moved places idle (IsPermutation-sym idle places permuted) k place at in
+        let was = moved places reached (IsPermutation-sym reached places permuted) k place at in
         is_unseen was.0 place was.1;
-    all = λ place u. let at = unseen_is place u in moved idle places permuted at.0 place at.1;
+    all = λ place u. let at = unseen_is place u in moved reached places permuted at.0 place at.1;
     sorted = sorted;
   }

@@ -2,3 +2,6 @@
 pub mod Words
 pub mod Reach
 pub mod Unseen
+-- What inner functions promise each other.
+pub mod Characters
+pub mod Groups

@@ -76,6 +76,15 @@ pub record PrintsUnseen (a : AnalysisValue) (part : Part) (text : List ℕ) : Ty
 
 -- ---- what inner functions promise each other
 
+-- no unit has the token
+abbrev pub IsUnprocessed : AnalysisValue → Part → Type 0
+IsUnprocessed a place = IsProcessed a place.start → ⊥
+
+-- no name declares anything with the class or uses it
+pub record IsUnstated (a : AnalysisValue) (place : Part) : Type 0 where
+  pub undeclared : HasRole a Declares place → ⊥
+  pub unused : HasRole a Uses place → ⊥
+
 -- two places are one
 abbrev pub is_same : Part → Part → Bool
 is_same p q = (nat_eq p.start.file q.start.file && nat_eq p.start.at q.start.at) && nat_eq p.len q.len

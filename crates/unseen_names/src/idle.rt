@@ -1,59 +1,64 @@
 // Classes that no name declares or uses, where no unit has the token.
 ghost use Rattle.std.specs.Prelude.{◌≡◌, ℕ, Some, IfOk, MatchBool, slice_get};
 ghost use Rattle.cs_base.specs.declared.positions.Part.{Part};
+ghost use Rattle.cs_base.specs.declared.positions.Pos.{Pos};
 ghost use Rattle.analysis.specs.Parts.{IsPart};
 ghost use Rattle.class_marks.specs.Keeping.{Keeps};
-ghost use Rattle.class_marks.specs.Marks.{AreMarked};
-ghost use Rattle.class_marks.specs.Roles.{names_with};
-ghost use Rattle.class_marks.specs.declared.roles.Role.TheVariants as role;
-ghost use Rattle.unseen_names.specs.Unseen.{IsIdle};
+ghost use Rattle.unseen_names.specs.Characters.{is_marked};
+ghost use Rattle.unseen_names.specs.Groups.{is_in_group, HasGroup};
+ghost use Rattle.unseen_names.specs.declared.names.Group.TheVariants as group;
+ghost use Rattle.unseen_names.specs.Unseen.{IsIdle, IsUnstated};
 
-use crate::processed::is_processed;
+use crate::characters::{Marks, any_marked};
+use crate::names::{Group, marks_of};
+use crate::processed::unprocessed;
 use analysis::Analysis;
-use class_marks::{Role, is_marked, marks_of};
 use cs_base::{Memory, Part};
 use std::alloc::Global;
 
-// Whether no name declares or uses the class of a part, by the marks of both roles, and no unit has the token.
-fn is_idle(a: &Analysis, declared: &[bool], used: &[bool], place: Part) -> bool
+// Whether no name declares or uses the class of a part, by the marks of those that do.
+fn is_unstated(a: &Analysis, marks: &[Marks], place: Part) -> bool
     requires place { IsPart a.now.value place }
-    requires declared { AreMarked a.now.classes (names_with role.Declares a.now.value) declared.now }
-    requires used { AreMarked a.now.classes (names_with role.Uses a.now.value) used.now }
-    ensures { MatchBool result (IsIdle a.now.value place) (IsIdle a.now.value place → ⊥) }
+    requires marks { (p : Pos) → is_marked marks.now p ≡ is_in_group group.Stated a.now.value p }
+    ensures { MatchBool result (IsUnstated a.now.value place) (IsUnstated a.now.value place → ⊥) }
 {
-    if is_marked(a, declared, place) {
-        return false;
-    }
-    if is_marked(a, used, place) {
-        return false;
-    }
-    let processed = is_processed(a, place.start);
-    !processed
+    !any_marked(marks, a.members(place))
 }
 
 // Those of these parts.
-fn idle_by(
+fn unstated_by(
     alloc: Global,
     a: &Analysis,
-    declared: &[bool],
-    used: &[bool],
+    marks: &[Marks],
     places: &[Part],
 ) -> Result<Vec<Part>, Memory>
     requires places { (k : ℕ) (place : Part) → slice_get places.now k ≡ Some place → IsPart a.now.value place }
-    requires declared { AreMarked a.now.classes (names_with role.Declares a.now.value) declared.now }
-    requires used { AreMarked a.now.classes (names_with role.Uses a.now.value) used.now }
-    ensures { IfOk result (λ out. Keeps (IsIdle a.now.value) places.now out.items) }
+    requires marks { (p : Pos) → is_marked marks.now p ≡ is_in_group group.Stated a.now.value p }
+    ensures { IfOk result (λ out. Keeps (IsUnstated a.now.value) places.now out.items) }
 {
     let mut out = Vec::new(alloc);
     for place in places {
-        if is_idle(a, declared, used, *place) {
+        if is_unstated(a, marks, *place) {
             out.push(*place)?;
         }
     }
     Ok(out)
 }
 
-/// Those of these parts whose classes no name declares or uses, and which no unit has.
+// Those of these parts whose classes no name declares or uses.
+fn unstated(alloc: Global, a: &Analysis, places: Vec<Part>) -> Result<Vec<Part>, Memory>
+    requires { (k : ℕ) (place : Part) → slice_get places.items k ≡ Some place → IsPart a.now.value place }
+    ensures { IfOk result (λ out. Keeps (IsUnstated a.now.value) places.items out.items) }
+{
+    if places.is_empty() {
+        return Ok(places);
+    }
+    let marks = marks_of(alloc, a, Group::Stated)?;
+    unstated_by(alloc, a, &marks, &places)
+}
+
+/// Those of these parts whose classes no name declares or uses, and which no unit has. What a unit has is found first, since
+/// most of these parts are there.
 pub(crate) fn idle(alloc: Global, a: &Analysis, places: Vec<Part>) -> Result<Vec<Part>, Memory>
     requires { (k : ℕ) (place : Part) → slice_get places.items k ≡ Some place → IsPart a.now.value place }
     ensures { IfOk result (λ out. Keeps (IsIdle a.now.value) places.items out.items) }
@@ -61,7 +66,6 @@ pub(crate) fn idle(alloc: Global, a: &Analysis, places: Vec<Part>) -> Result<Vec
     if places.is_empty() {
         return Ok(places);
     }
-    let declared = marks_of(alloc, a, Role::Declares)?;
-    let used = marks_of(alloc, a, Role::Uses)?;
-    idle_by(alloc, a, &declared, &used, &places)
+    let apart = unprocessed(alloc, a, &places)?;
+    unstated(alloc, a, apart)
 }

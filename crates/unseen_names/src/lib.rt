@@ -7,13 +7,16 @@
 //! parameter has, and of names that do not reach past a function those alone that stand between the members of the
 //! class. `IsUnseen` of `specs/Unseen.antt` says which they are; `push_unseen` tells them, a line each. What a new name
 //! may be, and what an edit changes, belongs to the crates below and beside this one. Refused: only want of memory.
-//! Cost is that of one walk over the tokens of files, and of a few over those of units where such an identifier is
-//! found. Read `specs/Words.antt`, `specs/Reach.antt` and `specs/Unseen.antt`, then `unseen_places.rt`.
+//! Cost is that of one walk over the tokens of files, of one over those of units where such an identifier is found that
+//! is of another class, and of two over the names of units where no unit has it. Read `specs/Words.antt`,
+//! `specs/Reach.antt` and `specs/Unseen.antt`, then `unseen_places.rt`.
 #![tactic(auto)]
 
+mod characters;
 mod files;
 mod idle;
 mod lines;
+mod names;
 mod others;
 mod place_lines;
 mod place_order;

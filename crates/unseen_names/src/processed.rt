@@ -1,76 +1,58 @@
-// Positions that tokens of units come from.
-ghost use Rattle.std.specs.Prelude.{◌≡◌, MatchBool, length};
+// Characters that tokens of units come from.
+ghost use Rattle.std.specs.Prelude.{◌≡◌, IfOk, MatchBool};
 ghost use Rattle.std.specs.List.{list_any};
-ghost use Rattle.cs_base.specs.Token.{origin_at};
-ghost use Rattle.unseen_names.specs.Unseen.{comes_from, is_in_unit, IsProcessed, stands_at};
+ghost use Rattle.cs_base.specs.declared.positions.Pos.{Pos};
+ghost use Rattle.class_marks.specs.Keeping.{Keeps};
+ghost use Rattle.unseen_names.specs.Characters.{is_marked};
+ghost use Rattle.unseen_names.specs.Unseen.{is_in_unit, IsUnprocessed};
 
-use analysis::{Analysis, UnitText};
-use cs_base::{Pos, Tok};
+use crate::characters::{Marks, is_marked, mark_tokens};
+use analysis::Analysis;
+use cs_base::{Memory, Part};
+use std::alloc::Global;
 
-// How many characters a token has.
-fn length(tok: &Tok) -> u32
-    ensures { result ≡ length tok.now.origins }
+// Marks on those of all units.
+fn processed(alloc: Global, a: &Analysis) -> Result<Vec<Marks>, Memory>
+    ensures { IfOk result (λ marks. (p : Pos) → is_marked marks.items p ≡ list_any (is_in_unit p) a.now.value.units) }
 {
-    tok.text().len() as u32
-}
-
-// Whether character k of a token comes from a position.
-fn stands_at(tok: &Tok, k: u32, at: Pos) -> bool
-    ensures { result ≡ stands_at at (origin_at tok.now k) }
-{
-    match tok.origins(k) {
-        Some(p) => at.file == p.file && at.at == p.at,
-        None => false,
-    }
-}
-
-// Whether some character of it does.
-fn comes_from(tok: &Tok, at: Pos) -> bool
-    ensures { result ≡ comes_from at tok.now }
-{
-    let count = length(tok);
-    for k in 0..count {
-        if stands_at(tok, k, at) {
-            return true;
-        }
-    }
-    false
-}
-
-// Whether some of these tokens does.
-fn is_in(toks: &[Tok], at: Pos) -> bool
-    ensures { result ≡ list_any (comes_from at) toks.now }
-{
-    for tok in toks {
-        if comes_from(tok, at) {
-            return true;
-        }
-    }
-    false
-}
-
-// Whether some token of a unit does.
-fn is_in_text(text: &UnitText, at: Pos) -> bool
-    ensures { result ≡ list_any (comes_from at) text.now.toks }
-{
-    is_in(text.toks(), at)
-}
-
-// Whether some token of some unit does.
-fn is_in_units(a: &Analysis, at: Pos) -> bool
-    ensures { result ≡ list_any (is_in_unit at) a.now.value.units }
-{
+    let mut marks = Vec::new(alloc);
     for unit in 0..a.units() {
-        if is_in_text(a.text(unit + 1), at) {
-            return true;
-        }
+        mark_tokens(alloc, &mut marks, a.text(unit + 1).toks())?;
     }
-    false
+    Ok(marks)
 }
 
-/// Whether some unit has a token with a character from a position.
-pub(crate) fn is_processed(a: &Analysis, at: Pos) -> bool
-    ensures { MatchBool result (IsProcessed a.now.value at) (IsProcessed a.now.value at → ⊥) }
+// Whether no unit has a part, by these marks.
+fn is_unprocessed(a: &Analysis, marks: &[Marks], place: Part) -> bool
+    requires { (p : Pos) → is_marked marks.now p ≡ list_any (is_in_unit p) a.now.value.units }
+    ensures { MatchBool result (IsUnprocessed a.now.value place) (IsUnprocessed a.now.value place → ⊥) }
 {
-    is_in_units(a, at)
+    !is_marked(marks, place.start)
+}
+
+// Those of these parts.
+fn unprocessed_by(
+    alloc: Global,
+    a: &Analysis,
+    marks: &[Marks],
+    places: &[Part],
+) -> Result<Vec<Part>, Memory>
+    requires { (p : Pos) → is_marked marks.now p ≡ list_any (is_in_unit p) a.now.value.units }
+    ensures { IfOk result (λ out. Keeps (IsUnprocessed a.now.value) places.now out.items) }
+{
+    let mut out = Vec::new(alloc);
+    for place in places {
+        if is_unprocessed(a, marks, *place) {
+            out.push(*place)?;
+        }
+    }
+    Ok(out)
+}
+
+/// Those of these parts which no unit has.
+pub(crate) fn unprocessed(alloc: Global, a: &Analysis, places: &[Part]) -> Result<Vec<Part>, Memory>
+    ensures { IfOk result (λ out. Keeps (IsUnprocessed a.now.value) places.now out.items) }
+{
+    let marks = processed(alloc, a)?;
+    unprocessed_by(alloc, a, &marks, places)
 }

@@ -3,55 +3,23 @@ ghost use Rattle.std.specs.Prelude.{◌≡◌, IfOk, MatchBool};
 ghost use Rattle.std.specs.List.{list_any};
 ghost use Rattle.analysis.specs.Parts.{IsPart};
 ghost use Rattle.class_marks.specs.Keeping.{Keeps};
-ghost use Rattle.class_marks.specs.Touching.{HasRole};
 ghost use Rattle.unseen_names.specs.Reach.{are_around, begins_before, begins_behind, is_elsewhere, IsBetween, IsWide, Reaches, ReachesStart};
 
-use analysis::{Analysis, EntityKind};
-use class_marks::{Role, is_marked, marks_of};
+use crate::characters::any_marked;
+use crate::names::{Group, marks_of};
+use analysis::Analysis;
 use cs_base::{Memory, Part, Pos};
 use std::alloc::Global;
 
 // ---- names that reach past a function
 
-// Whether some name with the role touches the class of a part.
-fn has_role(alloc: Global, a: &Analysis, part: Part, role: Role) -> Result<bool, Memory>
-    requires { IsPart a.now.value part }
-    ensures { IfOk result (λ b. MatchBool b (HasRole a.now.value role part) (HasRole a.now.value role part → ⊥)) }
-{
-    let marks = marks_of(alloc, a, role)?;
-    Ok(is_marked(a, &marks, part))
-}
-
-// Whether the class has a name that reaches past a function. What most of those are is asked first.
+// Whether the class has a name that reaches past a function.
 fn is_wide(alloc: Global, a: &Analysis, part: Part) -> Result<bool, Memory>
     requires { IsPart a.now.value part }
     ensures { IfOk result (λ b. MatchBool b (IsWide a.now.value part) (IsWide a.now.value part → ⊥)) }
 {
-    let external = has_role(alloc, a, part, Role::External)?;
-    if external {
-        return Ok(true);
-    }
-    let macro_ = has_role(alloc, a, part, Role::Defines)?;
-    if macro_ {
-        return Ok(true);
-    }
-    let member = has_role(alloc, a, part, Role::OfKind(EntityKind::Member))?;
-    if member {
-        return Ok(true);
-    }
-    let function = has_role(alloc, a, part, Role::OfKind(EntityKind::Function))?;
-    if function {
-        return Ok(true);
-    }
-    let typedef = has_role(alloc, a, part, Role::OfKind(EntityKind::Typedef))?;
-    if typedef {
-        return Ok(true);
-    }
-    let enumerator = has_role(alloc, a, part, Role::OfKind(EntityKind::Enumerator))?;
-    if enumerator {
-        return Ok(true);
-    }
-    has_role(alloc, a, part, Role::OfKind(EntityKind::Tag))
+    let marks = marks_of(alloc, a, Group::Wide)?;
+    Ok(any_marked(&marks, a.members(part)))
 }
 
 // ---- between members

@@ -19,8 +19,8 @@ pub fn unseen(alloc: Global, a: &Analysis, part: Part) -> Result<Vec<Part>, Memo
 {
     let words = words_of(alloc, a, a.spelling(part))?;
     let apart = others(alloc, a, part, &words)?;
-    let within = reached(alloc, a, part, apart)?;
-    let mut places = idle(alloc, a, within)?;
+    let left = idle(alloc, a, apart)?;
+    let mut places = reached(alloc, a, part, left)?;
     sort(a, &mut places)?;
     Ok(places)
 }

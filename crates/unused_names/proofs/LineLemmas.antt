@@ -5,13 +5,13 @@ use Rattle.std.proofs.lemmas.Bool.{cases_lt, eq-eqb, eqb-true, or_parts, and_par
 use Rattle.std.proofs.lemmas.Option.{none-some, same_Some, slice_get_within}
 use Rattle.std.proofs.Math.Bool.{or-false}
 use Rattle.cs_base.specs.declared.positions.Pos.{Pos}
+use Rattle.cs_base.proofs.PlaceLemmas.{pos_is as same_pos}
 use Rattle.analysis.specs.Below.unit_steps.declared.events.Event.{Event}
 use Rattle.analysis.specs.Below.unit_steps.Texts.{UnitTextValue}
 use Rattle.analysis.specs.Below.scope_bind.declared.bound.Name.{Name}
 use Rattle.analysis.specs.Analysis.{UnitAnalysis}
 use Rattle.analysis.proofs.PushedLemmas.{pushed_own}
 use Rattle.analysis.proofs.ListingLemmas.{pushed_kept, pushed_cases}
-use Rattle.analysis.proofs.Below.eclass_map.PartPlaces.{same_pos}
 use Rattle.unused_names.specs.Inclusions.{is_enter}
 use Rattle.unused_names.specs.Lines.{LinesValue, ComesBefore, Meets, AreLines, MeetsLine, GoOn, is_position, lines_and}
 use Rattle.unused_names.specs.Unneeded.{Includes, IsUnneeded}

@@ -1,24 +1,11 @@
 -- The lines of a file, and the parts of a line.
-use Rattle.std.proofs.Common.{◌≡◌, ℕ, Bool, true, false, suc, ◌+◌, ◌≤◌, ◌<◌, ◌==◌, List, [], ◌∷◌, length, take, drop, IsTrue, inl, inr, refl, ap, arith}
+use Rattle.std.proofs.Common.{◌≡◌, ℕ, Bool, true, false, suc, ◌+◌, ◌<◌, ◌==◌, List, [], ◌∷◌, length, take, drop, IsTrue, inl, inr, refl, ap, arith}
 use Rattle.std.specs.List.{prefix_len, list_all, onto_first}
 use Rattle.std.proofs.lemmas.Bool.{cases_Bool}
 use Rattle.cs_base.specs.Units.{line_feed}
+use Rattle.cs_base.proofs.ListLemmas.{prefix_len-cons, prefix_len-stop}
 use Rattle.ws_file.specs.Lines.{lines_of}
 use Rattle.ws_file.specs.Taking.{is_no_feed}
-
-prefix_len-cons : {X : Type 0} (p : X → Bool) (x : X) (xs : List X) → p x ≡ true → prefix_len p (x ∷ xs) ≡ suc (prefix_len p xs)
-prefix_len-cons p x xs holds = rw holds (omega arith)
-
-prefix_len-stop : {X : Type 0} (p : X → Bool) (x : X) (xs : List X) → p x ≡ false → prefix_len p (x ∷ xs) ≡ 0
-prefix_len-stop p x xs fails = rw fails refl
-
-pub prefix_len_le : {X : Type 0} (p : X → Bool) (xs : List X) → prefix_len p xs ≤ length xs
-prefix_len_le p [] = omega arith
-prefix_len_le p (x ∷ xs) =
-    elim (cases_Bool (p x)) [
-      | inl holds ↦ let here = prefix_len-cons p x xs holds in let below = prefix_len_le p xs in omega arith
-      | inr fails ↦ let here = prefix_len-stop p x xs fails in omega arith
-    ]
 
 -- the front that a test takes passes it
 pub list_all-prefix : {X : Type 0} (p : X → Bool) (xs : List X) → IsTrue (list_all p (take (prefix_len p xs) xs))

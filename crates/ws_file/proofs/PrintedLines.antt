@@ -1,5 +1,5 @@
 -- A line of a word, a space and a rest, as it is read.
-use Rattle.std.proofs.Common.{◌≡◌, ℕ, Bool, true, false, ◌&&◌, ◌||◌, ◌==◌, ◌+◌, ◌<◌, ◌≤◌, ◌^◌, List, [], ◌∷◌, ◌++◌, length, drop, reverse, refl, ap, ◌∙◌, arith, lit<}
+use Rattle.std.proofs.Common.{◌≡◌, ℕ, Bool, true, false, ◌&&◌, ◌||◌, ◌==◌, ◌+◌, ◌≤◌, ◌^◌, List, [], ◌∷◌, ◌++◌, length, drop, reverse, refl, ap, ◌∙◌, arith, lit<}
 use Rattle.std.specs.Prelude.{nat_lt, nat_le}
 use Rattle.std.specs.List.{list_all, position_or_len}
 use Rattle.std.specs.Str.{is_utf8, bytes_eq}
@@ -9,6 +9,7 @@ use Rattle.std.proofs.lemmas.List.{reverse-reverse, take_at, drop_at}
 use Rattle.std.proofs.lemmas.List.Folds.{list_all-append}
 use Rattle.cs_base.specs.Units.{space, is_blank, begins_with, ends_with, has_bad_ends, backslash, is_writable}
 use Rattle.cs_base.proofs.UnitLemmas.{is_utf8-ascii, is_utf8-around}
+use Rattle.cs_base.proofs.ListLemmas.{has_bytes, all_more as list_all-weaker}
 use Rattle.ws_file.specs.Lines.{without_first_blanks, without_last_blanks, trimmed, first_word, rest_of, line_word}
 use Rattle.ws_file.specs.Reading.{Reading, number_sign, is_comment, with_word, with_text, with_line}
 use Rattle.ws_file.specs.Taking.{IsTrimmed, is_no_feed, has_no_feed}
@@ -57,10 +58,6 @@ letter-no_comment b h = grind (arith, nat_tests, h)
 letter-no_feed : (b : ℕ) → is_letter b ≡ true → is_no_feed b ≡ true
 letter-no_feed b h = grind (arith, nat_tests, h)
 
-pub list_all-weaker : (p q : ℕ → Bool) → ((b : ℕ) → p b ≡ true → q b ≡ true) → (text : List ℕ) → list_all p text ≡ true → list_all q text ≡ true
-list_all-weaker p q step [] h = refl
-list_all-weaker p q step (b ∷ text) h = and_from _ _ (step b ((and_parts _ _ h).0)) (list_all-weaker p q step text ((and_parts _ _ h).1))
-
 letters : (word : List ℕ) → is_line_word word ≡ true → list_all is_letter word ≡ true
 letters [] h = refl
 letters (b ∷ word) h = h
@@ -86,10 +83,6 @@ begins_with-line_with (b ∷ word) rest w = letter-other b ((and_parts _ _ w).0)
 is_comment-line_with : (word rest : List ℕ) → is_line_word word ≡ true → is_comment (line_with word rest) ≡ false
 is_comment-line_with [] rest w = absurd (cc)
 is_comment-line_with (b ∷ word) rest w = letter-no_comment b ((and_parts _ _ w).0)
-
-has_bytes : (text : List ℕ) → bytes_eq text [] ≡ false → 0 < length text
-has_bytes [] full = absurd (cc)
-has_bytes (b ∷ text) full = omega arith
 
 ends_with-line_with : (p : ℕ → Bool) (word rest : List ℕ) → IsRest rest → ends_with p (line_with word rest) ≡ ends_with p rest
 ends_with-line_with p word rest r =

@@ -1,20 +1,17 @@
 -- What stays true of a reading as lines are taken.
-use Rattle.std.proofs.Common.{◌≡◌, ℕ, Bool, true, false, not, ◌||◌, ◌==◌, List, [], ◌∷◌, ◌++◌, IsTrue, refl, ◌∙◌, arith}
+use Rattle.std.proofs.Common.{◌≡◌, ℕ, Bool, true, false, not, ◌||◌, ◌==◌, List, [], ◌∷◌, ◌++◌, IsTrue, refl, arith}
 use Rattle.std.specs.Prelude.{codes}
 use Rattle.std.specs.List.{list_all}
 use Rattle.std.specs.Str.{bytes_eq}
-use Rattle.std.proofs.lemmas.List.Folds.{list_all-append}
 use Rattle.std.proofs.lemmas.List.Elements.{All-append}
 use Rattle.std.proofs.lemmas.Bool.{or_parts, and_from}
 use Rattle.cs_base.specs.Paths.{normal_path_of, is_normal}
 use Rattle.cs_base.specs.Units.{UnitValue, unit, IsUnit, quote, less_sign, begins_with, has_bad_ends, is_writable, is_project, is_directory, is_unit_path, is_include, defines_fit}
 use Rattle.cs_base.proofs.NormalPaths.{is_normal-normal_path_of}
 use Rattle.cs_base.proofs.UnitLemmas.{is_utf8-ascii, is_writable-normal_path_of}
+use Rattle.cs_base.proofs.ListLemmas.{list_all-push}
 use Rattle.ws_file.specs.Reading.{Reading, at_first, is_bad_path, is_bad_include}
 use Rattle.ws_file.specs.Taking.{IsReading}
-
-list_all-push : {X : Type 0} (p : X → Bool) (xs : List X) (x : X) → list_all p xs ≡ true → p x ≡ true → list_all p (xs ++ x ∷ []) ≡ true
-list_all-push p xs x h q = list_all-append p xs (x ∷ []) ∙ and_from (list_all p xs) (list_all p (x ∷ [])) h (and_from (p x) true q refl)
 
 is_project-default : is_project (codes "default") ≡ true
 unfolding is_writable

@@ -16,6 +16,7 @@ use Rattle.cs_base.specs.Paths.{normal_path_of, is_normal, kept_of}
 use Rattle.cs_base.specs.Units.{UnitValue, IsUnit, line_feed, backslash, quote, less_sign, is_blank, begins_with, has_bad_ends, is_writable, is_project, is_unit_path, is_directory, is_include, is_nondigit, is_identifier, is_setting, defines_fit}
 use Rattle.cs_base.proofs.PathLaws.{list_all-reverse}
 use Rattle.cs_base.proofs.UnitLemmas.{is_utf8-ascii}
+use Rattle.cs_base.proofs.ListLemmas.{all_more as list_all-weaker}
 use Rattle.cs_base.specs.Limits.{most_units}
 use Rattle.ws_file.specs.Workspace.{WorkspaceValue, workspace, IsWorkspace, is_prefix}
 use Rattle.ws_file.specs.Lines.{lines_of, line_word}
@@ -24,7 +25,7 @@ use Rattle.ws_file.specs.Printing.{readonly_line, project_line, standard_lines, 
 use Rattle.ws_file.specs.Taking.{is_no_feed, has_no_feed}
 use Rattle.ws_file.proofs.ReadLemmas.{read_lines-end}
 use Rattle.ws_file.proofs.ReadingLemmas.{unit_in}
-use Rattle.ws_file.proofs.PrintedLines.{IsRest, IsRest-writable, list_all-weaker}
+use Rattle.ws_file.proofs.PrintedLines.{IsRest, IsRest-writable}
 use Rattle.ws_file.proofs.Leads.{Leads, Leads-nil, Leads-append, Leads-line_with}
 
 -- Identifiers can stand in a line.

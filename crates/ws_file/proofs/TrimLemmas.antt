@@ -9,6 +9,7 @@ use Rattle.std.proofs.lemmas.List.Folds.{list_all-append, length-prefix_len}
 use Rattle.cs_base.specs.Units.{is_blank, begins_with, ends_with, backslash, is_writable}
 use Rattle.cs_base.proofs.PathLaws.{list_all-reverse}
 use Rattle.cs_base.proofs.UnitLemmas.{is_utf8-front, is_utf8-back, is_utf8-ascii}
+use Rattle.cs_base.proofs.ListLemmas.{has_bytes}
 use Rattle.ws_file.specs.Lines.{without_first_blanks, without_last_blanks, trimmed, first_word, rest_of}
 use Rattle.ws_file.specs.Taking.{IsTrimmed, is_no_feed, has_no_feed}
 
@@ -134,10 +135,6 @@ pub rest_of-is : (text : List ℕ) → rest_of text ≡ without_first_blanks (dr
 unfolding rest_of first_word
 rest_of-is text =
     ap (λ (n : ℕ). without_first_blanks (drop n text)) (length-prefix_len (λ b. not (is_blank b)) text)
-
-has_bytes : (text : List ℕ) → bytes_eq text [] ≡ false → 0 < length text
-has_bytes [] full = absurd (cc)
-has_bytes (b ∷ text) full = omega arith
 
 -- the rest of a line can stand in a line
 pub is_writable-rest_of : (text : List ℕ) → IsTrimmed text → ends_with (λ b. b == backslash) text ≡ false → bytes_eq (rest_of text) [] ≡ false

@@ -1,10 +1,10 @@
 use Rattle.std.proofs.Common.{List, ap, ◌∙◌}
 use Rattle.std.specs.List.{flat_map}
 use Rattle.std.proofs.lemmas.List.{take_all}
+use Rattle.cs_base.proofs.ListLemmas.{read_at}
 use Rattle.analysis.specs.Below.unit_steps.declared.events.Event.{Event}
 use Rattle.class_marks.specs.Marks.{with_tokens}
 use Rattle.class_marks.specs.Roles.{event_name}
-use Rattle.class_marks.proofs.AnswerLemmas.{read_at}
 use Rattle.class_marks.proofs.MarkLemmas.{list_step}
 use Rattle.class_marks.proofs.marks.mark_events.Goals as goal
 

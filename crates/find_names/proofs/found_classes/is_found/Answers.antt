@@ -1,26 +1,22 @@
-use Rattle.std.proofs.Common.{sym, ◌∙◌}
+use Rattle.std.proofs.Common.{refl}
+use Rattle.analysis.specs.Spellings.{spelling_of}
 use Rattle.class_marks.proofs.AnswerLemmas.{told_false, told_true}
 use Rattle.find_names.specs.Found.{IsFound}
 use Rattle.find_names.specs.Question.{IsInQuestion}
 use Rattle.find_names.proofs.QuestionLemmas.{told_of}
-use Rattle.find_names.proofs.FoundLemmas.{not_satisfied, refused_by, refused_err, satisfied}
+use Rattle.find_names.proofs.FoundLemmas.{not_satisfied, satisfied}
 use Rattle.find_names.proofs.found_classes.is_found.Goals as goal
-
-pub returns-in_err-satisfied-clause-refused : goal.returns-in_err-satisfied-clause-refused
-returns-in_err-satisfied-clause-refused c =
-    refused_err c.args.query.now c.from_residual.result _ c.from_residual.ensures.1
-    (refused_by c.args.query.now _ c.in_err-satisfied.field-0.0 (sym c.in_err-satisfied.was ∙ c.satisfies.ensures.answer))
 
 pub returns-then-not-satisfied-clause-answer : goal.returns-then-not-satisfied-clause-answer
 returns-then-not-satisfied-clause-answer c = λ q read.
-    let tells = satisfied c.args.a.now.value c.args.part c.facts_of-facts.result c.args.query.now c.spelling.result.now c.in_ok-satisfied.satisfied q
-    c.facts_of-facts.ensures c.spelling.ensures (sym c.in_ok-satisfied.was ∙ c.satisfies.ensures.answer) read in
+    let tells = satisfied c.args.a.now.value c.args.part c.facts_of-facts.result c.args.query.now (spelling_of c.args.a.now.value c.args.part) c.in_ok-satisfied.satisfied q
+    c.facts_of-facts.ensures refl c.in_ok-satisfied.ensures.answer read in
     not_satisfied c.args.a.now.value c.args.part q (told_false c.in_ok-satisfied.satisfied _ _ c.if-not-satisfied.true tells)
 
 pub returns-clause-answer : goal.returns-clause-answer
 returns-clause-answer c = λ q read.
-    let tells = satisfied c.args.a.now.value c.args.part c.facts_of-facts.result c.args.query.now c.spelling.result.now c.in_ok-satisfied.satisfied q
-    c.facts_of-facts.ensures c.spelling.ensures (sym c.in_ok-satisfied.was ∙ c.satisfies.ensures.answer) read in
+    let tells = satisfied c.args.a.now.value c.args.part c.facts_of-facts.result c.args.query.now (spelling_of c.args.a.now.value c.args.part) c.in_ok-satisfied.satisfied q
+    c.facts_of-facts.ensures refl c.in_ok-satisfied.ensures.answer read in
     let yes = told_true c.in_ok-satisfied.satisfied _ _ c.if-not-satisfied.false tells in
     told_of c.is_in_question.result (IsInQuestion c.args.a.now.value c.args.part) (IsFound c.args.a.now.value q c.args.part)
     (λ x. record { first = c.requires.first; in_question = x; satisfies = yes }) (λ x. x.in_question) c.is_in_question.ensures

@@ -7,7 +7,10 @@ use Rattle.find_names.proofs.found_classes.lines.Goals as goal
 use Rattle.find_names.proofs.found_classes.lines.Goals.{then-found+in_ok-push_line, else-found}
 
 pub loop-part-init : goal.loop-part-init
-loop-part-init c = λ q read. shown_none c.args.a.now.value q c.firsts-firsts.result.now c.new-text.result.items c.new-text.ensures.items
+loop-part-init c = record {
+  shown = λ q read. shown_none c.args.a.now.value q c.firsts-firsts.result.now c.new-text.result.items c.new-text.ensures.items;
+  told = c.of-told.ensures;
+}
 
 pub is_found-requires-clause-first : goal.is_found-requires-clause-first
 is_found-requires-clause-first c =
@@ -18,21 +21,24 @@ push_line-requires c =
     (c.firsts-firsts.ensures.each c.loop-part.part-index _ (slice_get-get_or c.firsts-firsts.result.now c.loop-part.part-index _ c.loop-part-test.true)).is_part
 
 pub loop-part-preserved : goal.loop-part-preserved
-loop-part-preserved c = λ q read.
-    let a = c.args.a.now.value in
-    let firsts = c.firsts-firsts.result.now in
-    let k = c.loop-part.part-index in
-    let tells = c.in_ok-found.ensures.answer q read in
-    elim c.if-found.branch [
-      | then-found+in_ok-push_line w ↦
-          shown_more a q firsts k _ c.loop-part.text.items c.if-found.text.items c.loop-part-test.true (told_true c.in_ok-found.found _ _ w.if-found.true tells)
-          (rw w.text-is w.in_ok-push_line.ensures) (c.loop-part.invariant q read)
-      | else-found w ↦
-          shown_same a q firsts k _ c.loop-part.text.items c.if-found.text.items c.loop-part-test.true (told_false c.in_ok-found.found _ _ w.if-found.false tells)
-          (rw w.text-is refl) (c.loop-part.invariant q read)
-    ]
+loop-part-preserved c = record {
+  told = c.in_ok-found.ensures.told;
+  shown = λ q read.
+      let a = c.args.a.now.value in
+      let firsts = c.firsts-firsts.result.now in
+      let k = c.loop-part.part-index in
+      let tells = c.in_ok-found.ensures.answer q read in
+      elim c.if-found.branch [
+        | then-found+in_ok-push_line w ↦
+            shown_more a q firsts k _ c.loop-part.text.items c.if-found.text.items c.loop-part-test.true (told_true c.in_ok-found.found _ _ w.if-found.true tells)
+            (rw w.text-is w.in_ok-push_line.ensures) (c.loop-part.invariant.shown q read)
+        | else-found w ↦
+            shown_same a q firsts k _ c.loop-part.text.items c.if-found.text.items c.loop-part-test.true (told_false c.in_ok-found.found _ _ w.if-found.false tells)
+            (rw w.text-is refl) (c.loop-part.invariant.shown q read)
+      ];
+}
 
 pub returns-clause-answer : goal.returns-clause-answer
 returns-clause-answer c = λ q read.
     shown_all c.args.a.now.value q c.firsts-firsts.result.now c.loop-part.part-index c.loop-part.text.items c.loop-part-test.false c.firsts-firsts.ensures
-    (c.loop-part.invariant q read)
+    (c.loop-part.invariant.shown q read)

@@ -1,7 +1,8 @@
 use Rattle.std.proofs.Common.{sym, ap, ◌∙◌, arith}
 use Rattle.c_types.specs.Trees.{first_token}
 use Rattle.c_types.proofs.ChildWalks.{from_child-end}
-use Rattle.gnu_bind.proofs.TokenLemmas.{first-front, found-yes, found-no}
+use Rattle.c_types.proofs.FrontLemmas.{first_token-front as first-front}
+use Rattle.gnu_bind.proofs.TokenLemmas.{found-yes, found-no}
 use Rattle.gnu_bind.proofs.leaving.second_token.Goals as goal
 
 pub returns-in-Some : goal.returns-in-Some

@@ -3,7 +3,7 @@ use Rattle.source_files.specs.Answers.{fault_of}
 use Rattle.source_files.specs.Sources.{opening_found}
 use Rattle.source_files.proofs.TableLemmas.{earlier_found, reads-trans, reads-asked, reads-widened}
 use Rattle.std.proofs.Common.{◌≡◌, ℕ, ◌<◌, List, [], length, get_or, Some, refl, sym, ◌∙◌, ap}
-use Rattle.source_files.proofs.SearchedLemmas.{get_or-default}
+use Rattle.cs_base.proofs.ListLemmas.{default as get_or-default}
 use Rattle.source_files.proofs.SourcesLemmas.{none-told, found-missing, found-opening}
 use Rattle.include_tree.proofs.including.open_asked.Goals as goal
 

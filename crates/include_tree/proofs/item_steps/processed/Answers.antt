@@ -41,6 +41,7 @@ pub returns-in_default : goal.returns-in_default
 returns-in_default c = record {
   goes_on = record { able = c.requires.able; most = refl };
   no_read = tt;
+  sound = tt;
   answer = λ ctx inner table limit standard.
       processed-rest ctx inner (source_in c.args.file.now) c.args.item.now.kind c.args.item.now.at c.args.item.now.toks.now (state_in table c.args.p.now) c.args.p.now.text
       c.in_default.not-Run c.in_default.not-Define c.in_default.not-Undef c.in_default.not-Include c.in_default.not-Error c.in_default.not-Bad c.in_default.not-Gnu c.in_default.not-Pragma;

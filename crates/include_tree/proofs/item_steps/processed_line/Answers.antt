@@ -27,6 +27,7 @@ pub returns-in_default : goal.returns-in_default
 returns-in_default c = record {
   goes_on = record { able = c.requires.able; most = refl };
   no_read = tt;
+  sound = tt;
   answer = λ ctx inner table.
       line-rest ctx inner c.args.line (source_in c.args.file.now) c.args.at c.args.toks.now (state_in table c.args.p.now) c.args.p.now.text c.in_default.not-IncludeNext;
 }

@@ -6,8 +6,10 @@ use Rattle.unit_steps.specs.declared.progress.Progress.{Progress}
 use Rattle.unit_steps.specs.Moments.{state_in}
 use Rattle.source_files.specs.Sources.{source_at}
 use Rattle.source_files.proofs.TableLemmas.{earlier_found, reads-refl, reads-trans}
+use Rattle.include_tree.specs.GivenFiles.{unit_context}
+use Rattle.include_tree.specs.Walking.{inner_in}
 use Rattle.include_tree.proofs.StayingLemmas.{source-same, source-number}
-use Rattle.include_tree.proofs.WalksLemmas.{item-told, item-included, include-fault, include-open, enter-done, enter-fault, once-passed, once-read, walk-starts, walk-goes, walk-faulted, walk-ends}
+use Rattle.include_tree.proofs.WalksLemmas.{item-told, item-included, line-included, include-fault, include-open, enter-done, enter-fault, once-passed, once-read, walk-starts, walk-goes, walk-faulted, walk-ends}
 use Rattle.include_tree.proofs.walking.+walk.Goals as goal
 
 -- ---- an item
@@ -30,9 +32,23 @@ pub walk_item-returns-in-Ok-Some-clause-answer : goal.walk_item-returns-in-Ok-So
 walk_item-returns-in-Ok-Some-clause-answer g t c =
     λ source found.
     item-included source (source_at c.args.cache.now.table c.args.number) c.args.unit.now c.args.cache.now.toks c.args.p.now.most c.args.room c.args.k
-    c.args.sections.now c.next_item.new.sections (state_in c.args.cache.now.table c.args.p.now) (state_in c.args.cache.now.table c.next_item.new.p)
-    (state_in c.include_file.new.cache.table c.include_file.new.p) c.args.p.now.text c.next_item.new.p.text c.include_file.new.p.text c.in-Ok-Some.line c.include_file.result
-    c.standard.result c.requires.ready.limited c.standard.ensures.answer (rw c.in-Ok-Some.field-0-is at c.in-Ok-Some.ensures.answer) (c.include_file.ensures.answer source found)
+    c.args.sections.now c.next_item.new.sections c.walk_line.new.sections (state_in c.args.cache.now.table c.args.p.now) (state_in c.args.cache.now.table c.next_item.new.p)
+    (state_in c.walk_line.new.cache.table c.walk_line.new.p) c.args.p.now.text c.next_item.new.p.text c.walk_line.new.p.text c.in-Ok-Some.line c.walk_line.result
+    c.standard.result c.requires.ready.limited c.standard.ensures.answer (rw c.in-Ok-Some.field-0-is at c.in-Ok-Some.ensures.answer) (c.walk_line.ensures.answer source found)
+
+-- ---- a line for which files are asked
+
+pub walk_line-returns-in-Include-clause-answer : goal.walk_line-returns-in-Include-clause-answer
+walk_line-returns-in-Include-clause-answer g t c =
+    λ source found.
+    let ctx = unit_context source c.args.unit.now c.args.cache.now.toks in
+    rw c.in-Include.is
+    (line-included ctx (inner_in ctx c.args.room) (source_at c.args.cache.now.table c.args.number) c.in-Include.line c.args.sections.now (state_in c.args.cache.now.table c.args.p.now)
+    (state_in c.include_file.new.cache.table c.include_file.new.p) c.args.p.now.text c.include_file.new.p.text c.include_file.result (c.include_file.ensures.answer source found))
+
+pub walk_line-returns-in-Condition-clause-answer : goal.walk_line-returns-in-Condition-clause-answer
+walk_line-returns-in-Condition-clause-answer g t c =
+    λ source found. rw c.in-Condition.is (c.ask_section.ensures.answer source found)
 
 -- ---- an include line
 

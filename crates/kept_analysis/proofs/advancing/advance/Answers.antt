@@ -2,8 +2,9 @@ use Rattle.std.proofs.Common.{◌≡◌, ℕ, length, ap, sym, ◌∙◌, Some}
 use Rattle.eclass_map.specs.ClassTable.{Table, class_in}
 use Rattle.eclass_map.specs.Resized.{Resizes}
 use Rattle.analysis.specs.Analysed.{Analysed}
+use Rattle.analysis.proofs.Below.lexer.NameLemmas.{name_some}
 use Rattle.kept_analysis.specs.Following.{IsAnalysedAnew, IsRenamedIn, renamed_by}
-use Rattle.kept_analysis.proofs.AdvanceLemmas.{analysed_anew, if_ok, name_some, part_is, members_held, own_follows, reads_follow, renamed_in, moved_for}
+use Rattle.kept_analysis.proofs.AdvanceLemmas.{analysed_anew, if_ok, part_is, members_held, own_follows, reads_follow, renamed_in, moved_for}
 use Rattle.kept_analysis.proofs.advancing.advance.Goals as goal
 
 pub members-requires : goal.members-requires

@@ -1,6 +1,7 @@
 use Rattle.std.proofs.Common.{◌+◌, refl, arith}
+use Rattle.cs_base.proofs.ListLemmas.{prefix_len_le as prefix_len-le}
 use Rattle.line_diff.specs.Lines.{is_no_feed}
-use Rattle.line_diff.proofs.LineLemmas.{lines_of-first, prefix_len-le}
+use Rattle.line_diff.proofs.LineLemmas.{lines_of-first}
 use Rattle.line_diff.proofs.lines.line_len.Goals as goal
 
 pub returns-then-before-text-clause-first : goal.returns-then-before-text-clause-first

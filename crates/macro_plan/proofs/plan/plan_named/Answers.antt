@@ -1,6 +1,7 @@
 use Rattle.std.proofs.Common.{sym, ap, ◌∙◌}
+use Rattle.cs_base.proofs.ListLemmas.{nil_from, not_nil}
 use Rattle.list_cuts.specs.Orders.{is_order}
-use Rattle.macro_plan.proofs.PlanLemmas.{nil_from, not_nil, no_macro, no_order}
+use Rattle.macro_plan.proofs.PlanLemmas.{no_macro, no_order}
 use Rattle.macro_plan.proofs.plan.plan_named.Goals as goal
 
 pub returns-then-is_empty : goal.returns-then-is_empty

@@ -1,7 +1,9 @@
 use Rattle.std.proofs.Common.{ap, sym, ◌∙◌}
+use Rattle.cs_base.proofs.ListLemmas.{nil_from, not_nil}
 use Rattle.edited_files.specs.Edited.{with_each}
-use Rattle.macro_rules.proofs.EditLemmas.{with_each-none, edit_told}
-use Rattle.macro_rules.proofs.EditLemmas.{edit_for-none, nil_from, not_nil}
+use Rattle.edited_files.proofs.EditLemmas.{with_each-none}
+use Rattle.macro_rules.proofs.EditLemmas.{edit_told}
+use Rattle.macro_rules.proofs.EditLemmas.{edit_for-none}
 use Rattle.macro_rules.proofs.file_edits.put_file.Goals as goal
 
 pub returns-then-is_empty : goal.returns-then-is_empty

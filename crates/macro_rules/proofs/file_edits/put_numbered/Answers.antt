@@ -1,5 +1,5 @@
 use Rattle.std.proofs.Common.{sym}
-use Rattle.macro_rules.proofs.EditLemmas.{with_each-none}
+use Rattle.edited_files.proofs.EditLemmas.{with_each-none}
 use Rattle.macro_rules.proofs.EditLemmas.{kept_text}
 use Rattle.macro_rules.proofs.file_edits.put_numbered.Goals as goal
 

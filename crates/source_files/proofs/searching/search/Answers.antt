@@ -1,8 +1,9 @@
 use Rattle.std.proofs.Common.{◌≡◌, List, ℕ, true, false, not, [], get_or, refl, ◌∙◌, ap, subst}
+use Rattle.cs_base.proofs.ListLemmas.{default as get_or-default}
 use Rattle.source_files.specs.Files.{asked, found_at}
 use Rattle.source_files.specs.Statuses.{is_missing}
 use Rattle.source_files.proofs.TableLemmas.{earlier_found, only_asks-refl, only_asks-trans}
-use Rattle.source_files.proofs.SearchedLemmas.{search-there, search-gone, search-end, get_or-default}
+use Rattle.source_files.proofs.SearchedLemmas.{search-there, search-gone, search-end}
 use Rattle.source_files.proofs.searching.search.Goals as goal
 
 pub loop-i-init : goal.loop-i-init

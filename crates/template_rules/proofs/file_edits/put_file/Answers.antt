@@ -1,9 +1,9 @@
-use Rattle.std.proofs.Common.{◌≡◌, ◌∷◌, [], true, List, ℕ, length, ap, sym, ◌∙◌, arith, rules}
-use Rattle.cs_base.specs.Edit.{Edit, edit}
+use Rattle.std.proofs.Common.{ap, sym, ◌∙◌}
+use Rattle.cs_base.proofs.ListLemmas.{nil_from, not_nil}
 use Rattle.edited_files.specs.Edited.{with_each}
-use Rattle.template_rules.specs.FileLists.{edit_for, new_bytes}
-use Rattle.template_rules.proofs.ListLemmas.{with_each-none, edit_told}
-use Rattle.template_rules.proofs.EditLemmas.{edit_for-none, nil_from, not_nil}
+use Rattle.edited_files.proofs.EditLemmas.{with_each-none}
+use Rattle.template_rules.proofs.ListLemmas.{edit_told}
+use Rattle.template_rules.proofs.EditLemmas.{edit_for-none}
 use Rattle.template_rules.proofs.file_edits.put_file.Goals as goal
 
 pub returns-then-is_empty : goal.returns-then-is_empty

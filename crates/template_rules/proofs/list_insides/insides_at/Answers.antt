@@ -1,11 +1,11 @@
 use Rattle.std.proofs.Common.{sym, ◌∙◌}
 use Rattle.std.specs.List.{flat_map}
 use Rattle.cs_base.specs.declared.causes.Cause.TheVariants as cause
+use Rattle.cs_base.proofs.ListLemmas.{nil_from}
 use Rattle.offences.specs.First.{standing}
 use Rattle.offences.proofs.FirstLemmas.{then_both}
 use Rattle.template_rules.specs.MacroOffences.{line_number_place}
 use Rattle.template_rules.specs.ScopeOffences.{declaration_place}
-use Rattle.template_rules.proofs.EditLemmas.{nil_from}
 use Rattle.template_rules.proofs.TurnLemmas.{none_insides, insides_first}
 use Rattle.template_rules.proofs.list_insides.insides_at.Goals as goal
 

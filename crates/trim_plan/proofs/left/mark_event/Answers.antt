@@ -1,11 +1,12 @@
-use Rattle.std.proofs.Common.{◌≡◌, ◌<◌, ◌∙◌, ◌&&◌, ℕ, Bool, List, true, false, length, sym, ap}
+use Rattle.std.proofs.Common.{◌≡◌, ◌<◌, ◌∙◌, ◌&&◌, ℕ, Bool, List, length, sym, ap}
 use Rattle.std.specs.Prelude.{nat_le, nat_lt}
-use Rattle.trim_rules.proofs.TestLemmas.{read_at}
+use Rattle.cs_base.proofs.BoolLemmas.{and_false as and-false, both_true as both-true}
+use Rattle.cs_base.proofs.ListLemmas.{read_at}
 use Rattle.analysis.specs.Below.unit_steps.declared.events.Event.{Event}
 use Rattle.unused_names.specs.Inclusions.{is_enter, end_of, tokens_before}
 use Rattle.trim_rules.specs.Trimmed.{is_line}
 use Rattle.trim_plan.specs.Left.{is_brought}
-use Rattle.trim_plan.proofs.PlaceLemmas.{event-other, event-one, marks-as, and-false, both-true}
+use Rattle.trim_plan.proofs.PlaceLemmas.{event-other, event-one, marks-as}
 use Rattle.trim_plan.proofs.left.mark_event.Goals as goal
 
 pub returns-then-not-is_enter : goal.returns-then-not-is_enter

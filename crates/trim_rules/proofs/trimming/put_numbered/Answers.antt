@@ -1,5 +1,6 @@
 use Rattle.std.proofs.Common.{sym}
-use Rattle.trim_rules.proofs.TrimmedLemmas.{with_each-none, kept-text}
+use Rattle.edited_files.proofs.EditLemmas.{with_each-none}
+use Rattle.trim_rules.proofs.TrimmedLemmas.{kept-text}
 use Rattle.trim_rules.proofs.trimming.put_numbered.Goals as goal
 
 pub put_file-requires : goal.put_file-requires

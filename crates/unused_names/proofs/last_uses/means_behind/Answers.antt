@@ -1,7 +1,7 @@
 use Rattle.std.proofs.Common.{◌≡◌, ◌∙◌, length, Some, None, sym, ap, subst}
+use Rattle.cs_base.proofs.ListLemmas.{read_at}
 use Rattle.unused_names.specs.LastUses.{last_at, TellsLast}
 use Rattle.unused_names.specs.Unneeded.{subject_of}
-use Rattle.class_marks.proofs.AnswerLemmas.{read_at}
 use Rattle.unused_names.proofs.UseLemmas.{asked_before, asked_behind, gives_none, never_asked}
 use Rattle.unused_names.proofs.last_uses.means_behind.Goals as goal
 

@@ -1,8 +1,9 @@
 use Rattle.std.proofs.Common.{◌≡◌, ℕ, ◌+◌, List, [], ◌∷◌, take, drop, length, ap, sym, ◌∙◌, refl, arith}
 use Rattle.std.specs.List.{prefix_len}
 use Rattle.std.proofs.lemmas.List.{drop-drop}
+use Rattle.cs_base.proofs.ListLemmas.{prefix_len_le}
 use Rattle.ws_file.specs.Taking.{is_no_feed}
-use Rattle.ws_file.proofs.LineLemmas.{lines_of-first, list_all-prefix, prefix_len_le}
+use Rattle.ws_file.proofs.LineLemmas.{lines_of-first, list_all-prefix}
 use Rattle.ws_file.proofs.line_parts.first_line.Goals as goal
 
 -- what follows the first line, from what is left behind it

@@ -1,6 +1,6 @@
 use Rattle.std.proofs.Common.{not}
 use Rattle.cs_base.specs.Units.{is_blank}
-use Rattle.ws_file.proofs.LineLemmas.{prefix_len_le}
+use Rattle.cs_base.proofs.ListLemmas.{prefix_len_le}
 use Rattle.ws_file.proofs.line_parts.word_and_rest.Goals as goal
 
 pub split_at-requires : goal.split_at-requires

@@ -4,10 +4,10 @@ use Rattle.std.proofs.lemmas.List.{length-map, get_or_past}
 use Rattle.eclass_map.specs.Kept.{IsKept}
 use Rattle.std.specs.Prelude.{slice_get}
 use Rattle.std.proofs.lemmas.Option.{slice_get_within}
+use Rattle.cs_base.proofs.ListLemmas.{none_mapped as past_map}
 use Rattle.class_labels.specs.Labels.{spot, walk_at}
 use Rattle.eclass_map.specs.ClassTable.{Table, part_with, members_of}
 use Rattle.class_labels.proofs.ListFacts.{now_at}
-use Rattle.class_labels.proofs.LookFacts.{past_map}
 use Rattle.class_labels.proofs.FieldFacts.{member_at, walk_short}
 use Rattle.class_labels.proofs.NextFacts.{In-slice_get}
 use Rattle.eclass_map.proofs.PartLaws.{walk_known}

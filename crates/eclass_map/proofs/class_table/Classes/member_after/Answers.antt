@@ -3,12 +3,12 @@ use Rattle.std.specs.Prelude.{slice_get, IsSome}
 use Rattle.std.proofs.lemmas.Option.{slice_get_within}
 use Rattle.std.proofs.lemmas.Bool.{false≢true}
 use Rattle.cs_base.specs.declared.positions.Part.{Part}
+use Rattle.cs_base.proofs.ListLemmas.{none_mapped as past_map}
 use Rattle.class_labels.specs.Labels.{spot, walk_at, class_at}
 use Rattle.eclass_map.specs.Positions.{index_at}
 use Rattle.eclass_map.specs.ClassTable.{Table, class_in, members_of, part_with}
 use Rattle.eclass_map.specs.Kept.{IsKept}
 use Rattle.class_labels.proofs.ListFacts.{now_at}
-use Rattle.class_labels.proofs.LookFacts.{past_map}
 use Rattle.class_labels.proofs.FieldFacts.{member_at}
 use Rattle.class_labels.proofs.StepFacts.{starts_of}
 use Rattle.class_labels.proofs.JoinFacts.{class_at_is}

@@ -1,9 +1,10 @@
 use Rattle.std.proofs.Common.{◌≡◌, ◌+◌, ◌<◌, ◌^◌, true, false, List, length, sym, ap, subst, ◌∙◌, arith}
 use Rattle.cs_base.specs.Edit.{Edit, edit, IsKept}
+use Rattle.cs_base.proofs.ListLemmas.{prefix_len_le}
 use Rattle.edited_files.specs.declared.text_edits.TextEdit.{TextEdit}
 use Rattle.edited_files.specs.Edited.{with_edit}
 use Rattle.edited_files.specs.Fields.{edits_in}
-use Rattle.edited_files.proofs.PlaceLemmas.{is_before, has_path_at, prefix_len_le, set_at, kept_set, insert_at, kept_insert}
+use Rattle.edited_files.proofs.PlaceLemmas.{is_before, has_path_at, set_at, kept_set, insert_at, kept_insert}
 use Rattle.edited_files.proofs.text_edits.TextEdits.put.Goals as goal
 
 pub invariant_of-self : goal.invariant_of-self

@@ -1,10 +1,11 @@
 use Rattle.std.proofs.Common.{sym, ◌∙◌, ap, arith, false, ◌<◌, ◌≤◌, ◌-◌, length, ◌≡◌, get_or, refl}
 use Rattle.std.specs.Option.{option_map_or}
 use Rattle.std.proofs.lemmas.Option.{slice_get_past}
+use Rattle.cs_base.proofs.ListLemmas.{read_at as slice_get-at}
 use Rattle.source_files.specs.Files.{is_absent}
 use Rattle.source_files.specs.Slots.{found_of}
 use Rattle.source_files.specs.FileTableFields.{paths_in}
-use Rattle.source_files.proofs.FileTableLemmas.{absent-slot, slice_get-at}
+use Rattle.source_files.proofs.FileTableLemmas.{absent-slot}
 use Rattle.source_files.proofs.file_table.FileTable.is_absent.Goals as goal
 
 pub returns-then-number-eq0 : goal.returns-then-number-eq0

@@ -1,9 +1,10 @@
 use Rattle.std.proofs.Common.{sym, ◌∙◌, ap, arith, ◌<◌, ◌≤◌, ◌-◌, length, ◌≡◌, get_or}
 use Rattle.std.specs.Option.{option_and_then}
 use Rattle.std.proofs.lemmas.Option.{slice_get_past}
+use Rattle.cs_base.proofs.ListLemmas.{read_at as slice_get-at}
 use Rattle.source_files.specs.Slots.{kept_of}
 use Rattle.source_files.specs.FileTableFields.{paths_in}
-use Rattle.source_files.proofs.FileTableLemmas.{kept_at-slot, slice_get-at}
+use Rattle.source_files.proofs.FileTableLemmas.{kept_at-slot}
 use Rattle.source_files.proofs.file_table.FileTable.kept.Goals as goal
 
 pub returns-then-i-slots : goal.returns-then-i-slots

@@ -1,7 +1,8 @@
 use Rattle.std.proofs.Common.{refl, ◌≡◌, ◌<◌, ℕ, List, Some, true, arith}
 use Rattle.analysis.specs.Below.source_files.Files.{absent_at}
+use Rattle.analysis.proofs.Below.source_files.KeptLemmas.{absent-within}
 use Rattle.trim_plan.specs.Places.{has_path}
-use Rattle.trim_plan.proofs.CompareLemmas.{below-next, absent-within}
+use Rattle.trim_plan.proofs.CompareLemmas.{below-next}
 use Rattle.trim_plan.proofs.comparing.Absent.knows_all.Goals as goal
 
 pub loop-number-init : goal.loop-number-init

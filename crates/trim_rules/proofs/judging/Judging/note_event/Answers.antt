@@ -1,11 +1,8 @@
-use Rattle.std.proofs.Common.{◌≡◌, ◌<◌, ◌∙◌, List, Some, sym, ap, subst, length, slice_get}
+use Rattle.std.proofs.Common.{◌≡◌, ◌∙◌, List, sym, ap, slice_get}
 use Rattle.std.specs.Option.{option_map}
-use Rattle.analysis.specs.Analysis.{UnitAnalysis}
-use Rattle.analysis.specs.Below.source_files.Files.{Table}
+use Rattle.cs_base.proofs.ListLemmas.{read_at}
 use Rattle.analysis.specs.Below.unit_steps.declared.events.Event.{Event}
 use Rattle.analysis.specs.Below.unit_steps.Texts.{UnitTextValue}
-use Rattle.trim_rules.proofs.TestLemmas.{read_at}
-use Rattle.trim_rules.specs.Held.{AreReasonsOf}
 use Rattle.trim_rules.specs.Judging.{told_of}
 use Rattle.trim_rules.specs.Reasons.{reason}
 use Rattle.trim_rules.proofs.HeldLemmas.{held-why}

@@ -1,5 +1,5 @@
 use Rattle.std.proofs.Common.{List, ℕ, Bor, sym}
-use Rattle.trim_rules.proofs.TestLemmas.{read_at}
+use Rattle.cs_base.proofs.ListLemmas.{read_at}
 use Rattle.trim_rules.specs.Mentions.{told_at}
 use Rattle.trim_rules.proofs.MentionLemmas.{names-other, names-one}
 use Rattle.trim_rules.proofs.mentions.Mentions.add_name.Goals as goal

@@ -1,6 +1,6 @@
 use Rattle.std.proofs.Common.{List, ℕ, Bor, sym}
+use Rattle.cs_base.proofs.ListLemmas.{read_at}
 use Rattle.unused_names.specs.LastUses.{last_at}
-use Rattle.class_marks.proofs.AnswerLemmas.{read_at}
 use Rattle.unused_names.proofs.UseLemmas.{none_asks, one_asks}
 use Rattle.unused_names.proofs.last_uses.LastUses.add.Goals as goal
 

@@ -1,6 +1,6 @@
 use Rattle.std.proofs.Common.{◌<◌, length, sym}
+use Rattle.cs_base.proofs.ListLemmas.{read_at}
 use Rattle.unused_names.specs.Lines.{lines_in}
-use Rattle.class_marks.proofs.AnswerLemmas.{read_at}
 use Rattle.unused_names.proofs.LineLemmas.{go_on_line, go_on_other}
 use Rattle.unused_names.proofs.lines.Lines.push_event.Goals as goal
 

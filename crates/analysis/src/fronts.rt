@@ -1,0 +1,158 @@
+// The beginnings that units have in common (ISO/IEC 9899:1999, 5.1.1.2 phase 7): what is read of one is kept for the units
+// that begin so.
+ghost use Rattle.std.specs.Prelude.{◌≡◌, ◌≤◌, length, true, IfOk, IfSome};
+ghost use Rattle.c99_read.specs.Fronts.{BeginsWith};
+ghost use Rattle.c99_read.specs.Below.c99_grammar.Dialects.{dialect};
+
+use c99_read::{Dialect, Front};
+use cs_base::{Kind, Memory, Standard, Tok};
+use std::alloc::Global;
+
+/// How many are kept.
+const MOST: usize = 8;
+
+/// How many tokens more two units must have in common, so that what they begin with is kept.
+const WORTH: usize = 1024;
+
+fn is_alike(a: &Tok, b: &Tok) -> bool {
+    a.kind() == b.kind() && a.text() == b.text()
+}
+
+// How many tokens the two begin with.
+fn common(a: &[Tok], b: &[Tok]) -> usize {
+    let count = a.len().min(b.len());
+    'tokens: for k in 0..count {
+        if !is_alike(&a[k], &b[k]) {
+            return k;
+        }
+    }
+    count
+}
+
+// The token is one of these bytes.
+fn is_one_of(tok: &Tok, bytes: &[u8]) -> bool {
+    match tok.text() {
+        [byte] => bytes.contains(byte),
+        _ => false,
+    }
+}
+
+// How deep brackets are open behind a token.
+fn depth_behind(depth: usize, tok: &Tok) -> usize {
+    if tok.kind() != Kind::Punct {
+        return depth;
+    }
+    if is_one_of(tok, b"([{") {
+        return depth.saturating_add(1);
+    }
+    if is_one_of(tok, b")]}") {
+        return depth.saturating_sub(1);
+    }
+    depth
+}
+
+fn is_end(depth: usize, tok: &Tok) -> bool {
+    depth == 0 && tok.kind() == Kind::Punct && tok.text() == b";".as_slice()
+}
+
+// Behind the last semicolon outside brackets that two of the first tokens follow; a guess where an external declaration ends.
+fn last_end(toks: &[Tok], count: usize) -> usize {
+    let count = count.min(toks.len());
+    let mut depth = 0;
+    let mut end = 0;
+    'tokens: for k in 0..count {
+        depth = depth_behind(depth, &toks[k]);
+        if is_end(depth, &toks[k]) && k + 2 < count {
+            end = k + 1;
+        }
+    }
+    end
+}
+
+// Copies of the first tokens, so many where there are so many.
+fn copies(alloc: Global, toks: &[Tok], count: usize) -> Result<Vec<Tok>, Memory>
+    ensures { IfOk result (λ copied. length copied.items ≤ length toks.now) }
+{
+    let mut copied = Vec::new(alloc);
+    'tokens: for k in 0..count.min(toks.len()) {
+        let tok = &toks[k];
+        copied.push(tok.share(tok.gap(), tok.at(), tok.line(), tok.direct())?)?;
+    }
+    Ok(copied)
+}
+
+/// The front with which the tokens begin by the standard, and of several the longest.
+pub(crate) fn front_of<'a>(
+    fronts: &'a [Front],
+    toks: &[Tok],
+    standard: Standard,
+) -> Option<&'a Front>
+    ensures { IfSome result (λ f. (f.now.dialect ≡ dialect standard) × BeginsWith toks.now f.now) }
+{
+    let mut longest: Option<&'a Front> = None;
+    let count = fronts.len();
+    'fronts: for k in 0..count {
+        longest = longer(longest, &fronts[k], toks, standard);
+    }
+    longest
+}
+
+fn longer<'a>(
+    longest: Option<&'a Front>,
+    front: &'a Front,
+    toks: &[Tok],
+    standard: Standard,
+) -> Option<&'a Front>
+    requires { IfSome longest (λ f. (f.now.dialect ≡ dialect standard) × BeginsWith toks.now f.now) }
+    ensures { IfSome result (λ f. (f.now.dialect ≡ dialect standard) × BeginsWith toks.now f.now) }
+{
+    if end_of(longest) < front.at()
+        && front.dialect() == Dialect::of(standard)
+        && front.begins(toks)
+    {
+        Some(front)
+    } else {
+        longest
+    }
+}
+
+// Where the front ends, if there is one.
+fn end_of(front: Option<&Front>) -> usize {
+    match front {
+        Some(front) => front.at(),
+        None => 0,
+    }
+}
+
+/// What these tokens have in common with others by the same standard is kept, where it is worth it: no front has it but for
+/// some tokens.
+pub(crate) fn learn(
+    alloc: Global,
+    fronts: &mut Vec<Front>,
+    before: &[Tok],
+    toks: &[Tok],
+    standard: Standard,
+) -> Result<(), Memory> {
+    let count = common(before, toks);
+    let known = end_of(front_of(fronts.as_slice(), toks, standard));
+    if count < WORTH || count - WORTH < known {
+        return Ok(());
+    }
+    let end = last_end(toks, count);
+    if end < WORTH || end - WORTH < known || toks.len() > u32::MAX as usize {
+        return Ok(());
+    }
+    let seen = copies(alloc, toks, end.saturating_add(2))?;
+    match Front::of(alloc, seen, end, Dialect::of(standard))? {
+        Some(front) => keep(fronts, front),
+        None => Ok(()),
+    }
+}
+
+fn keep(fronts: &mut Vec<Front>, front: Front) -> Result<(), Memory> {
+    if fronts.len() >= MOST {
+        fronts.remove(0);
+    }
+    fronts.push(front)?;
+    Ok(())
+}
