@@ -3,12 +3,17 @@ _cscout() {
   local word=${COMP_WORDS[COMP_CWORD]} at=$COMP_CWORD words
   # cscout-dry-run has the program in front
   [ "${COMP_WORDS[0]##*/}" = cscout ] || at=$((at - 1))
+  # words that stand in front of all others
+  local front=$((1 + COMP_CWORD - at))
+  while [ "$front" -lt "$COMP_CWORD" ] && [[ ${COMP_WORDS[front]} == --why || ${COMP_WORDS[front]} == --diff ]]; do
+    front=$((front + 1)) at=$((at - 1))
+  done
   local command=${COMP_WORDS[2 + COMP_CWORD - at]}
   case $at in
     0) mapfile -t COMPREPLY < <(compgen -c -- "$word") ;;
     1)
       words=
-      [ "$at" != "$COMP_CWORD" ] || words='--help --version generate'
+      [ "$at" != "$COMP_CWORD" ] || words='--help --version --diff --why -C generate'
       mapfile -t COMPREPLY < <(compgen -W "$words" -- "$word"; compgen -f -X '!*.cs' -- "$word"; compgen -d -S / -- "$word")
       ;;
     2)

@@ -14,7 +14,7 @@ use std::fmt::Write;
 use std::test::Fail;
 
 // What so many tokens denote, as BOUND has it.
-fn entities(alloc: Global, bound: &Bound, count: u32) -> Result<String, Fail> {
+pub(crate) fn entities(alloc: Global, bound: &Bound, count: u32) -> Result<String, Fail> {
     let mut out = String::new(alloc);
     for k in 0..count {
         if k > 0 {

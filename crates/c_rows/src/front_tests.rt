@@ -1,4 +1,5 @@
 // Texts that are read on from a front, and bound in two parts. What they give is worked outside.
+use crate::binding_tests::entities;
 use crate::reading_tests::written;
 use c99_read::{Dialect, Edition, Front, read_from};
 use c99_tree::Tree;
@@ -6,7 +7,6 @@ use cs_base::{Standard, Tok};
 use gnu_bind::bind_behind_by;
 use row_tools::toks;
 use std::alloc::Global;
-use std::fmt::Write;
 use std::test::Fail;
 
 // Each text, where a front of it may end, and the tree of what stands behind that front; and the entity of each token.
@@ -36,23 +36,14 @@ fn front_of(alloc: Global, text: &[u8], end: usize) -> Result<Option<Front>, Fai
     })
 }
 
-fn entities(alloc: Global, toks: &[Tok], front: &Front, rest: &Tree) -> Result<String, Fail> {
-    let mut out = String::new(alloc);
+fn behind(alloc: Global, toks: &[Tok], front: &Front, rest: &Tree) -> Result<String, Fail> {
     match bind_behind_by(alloc, toks, front.tree(), rest, Standard::C99) {
-        Ok(bound) => {
-            for k in 0..toks.len() {
-                if k > 0 {
-                    write!(out, " ")?;
-                }
-                match bound.entity(k as u32) {
-                    Some(entity) => write!(out, "{entity}")?,
-                    None => write!(out, ".")?,
-                }
-            }
-        }
-        Err(refusal) => write!(out, "{refusal:?}")?,
+        Ok(bound) => match u32::try_from(toks.len()) {
+            Ok(count) => entities(alloc, &bound, count),
+            Err(_) => Ok(format!(in alloc; "too many tokens")?),
+        },
+        Err(refusal) => Ok(format!(in alloc; "{refusal:?}")?),
     }
-    Ok(out)
 }
 
 // The tree behind the front, and the entities of all tokens.
@@ -61,10 +52,7 @@ fn answer(alloc: Global, text: &[u8], end: usize) -> Result<(String, String), Fa
     let told = match front_of(alloc, text, end)? {
         Some(front) if toks.len() <= u32::MAX as usize && front.begins(&toks) => {
             match read_from(alloc, &front, &toks) {
-                Ok(rest) => (
-                    written(alloc, &rest)?,
-                    entities(alloc, &toks, &front, &rest)?,
-                ),
+                Ok(rest) => (written(alloc, &rest)?, behind(alloc, &toks, &front, &rest)?),
                 Err(_) => (format!(in alloc; "not read")?, String::new(alloc)),
             }
         }

@@ -2,5 +2,6 @@
 pub mod Roles
 pub mod Touching
 pub mod Marks
+pub mod Touches
 -- What inner functions promise each other, and those of crates above.
 pub mod Keeping

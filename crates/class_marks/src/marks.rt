@@ -18,7 +18,7 @@ use eclass_map::Classes;
 use std::alloc::Global;
 
 // Marks a class.
-fn mark_class(marks: &mut Vec<bool>, class: u32)
+pub(crate) fn mark_class(marks: &mut Vec<bool>, class: u32)
     ensures { marks.new.items ≡ mark_class marks.old.items class }
 {
     if (class as usize) < marks.len() {
@@ -45,7 +45,7 @@ fn holds(part: Part, pos: Pos) -> bool
 }
 
 // The character comes from the part.
-fn is_within(part: Option<Part>, origin: Option<Pos>) -> bool
+pub(crate) fn is_within(part: Option<Part>, origin: Option<Pos>) -> bool
     ensures { result ≡ is_within part origin }
 {
     match (part, origin) {
@@ -73,7 +73,7 @@ fn mark_next(
 }
 
 // How many characters a token has.
-fn length(tok: &Tok) -> u32
+pub(crate) fn length(tok: &Tok) -> u32
     ensures { result ≡ length tok.now.origins }
 {
     tok.text().len() as u32
@@ -132,7 +132,7 @@ fn mark_wanted(marks: &mut Vec<bool>, classes: &Classes, wanted: bool, tok: &Tok
 }
 
 // How many tokens there are: `Memory` from 2^32 on.
-fn count_of(toks: &[Tok]) -> Result<u32, Memory>
+pub(crate) fn count_of(toks: &[Tok]) -> Result<u32, Memory>
     ensures { IfOk result (λ count. count ≡ length toks.now) }
 {
     if toks.len() > u32::MAX as usize {
@@ -176,7 +176,7 @@ fn mark_unit(
 
 #[tactic(auto, using(crate::proofs::MarkLemmas::blank_at))]
 // No marks.
-fn blank(alloc: Global, classes: &Classes) -> Result<Vec<bool>, Memory>
+pub(crate) fn blank(alloc: Global, classes: &Classes) -> Result<Vec<bool>, Memory>
     ensures none { IfOk result (λ marks. (c : ℕ) → slice_index_or marks.items c false ≡ false) }
     ensures enough { IfOk result (λ marks. (part : Part) (c : ℕ) → class_in classes.now part ≡ Some c → c < length marks.items) }
 {

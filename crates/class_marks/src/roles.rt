@@ -30,7 +30,7 @@ pub(crate) fn event_has(role: Role, kind: EventKind) -> bool
     }
 }
 
-fn is_parameter(kind: Option<EntityKind>) -> bool
+pub(crate) fn is_parameter(kind: Option<EntityKind>) -> bool
     ensures { result ≡ is_parameter kind }
 {
     match kind {
@@ -46,7 +46,7 @@ fn does_declare(bound: &Bound, k: u32, entity: u32) -> bool
     bound.declares(k) && !is_parameter(bound.kind(entity))
 }
 
-fn is_kind(kind: EntityKind, found: Option<EntityKind>) -> bool
+pub(crate) fn is_kind(kind: EntityKind, found: Option<EntityKind>) -> bool
     ensures { result ≡ is_kind kind found }
 {
     match (kind, found) {
@@ -62,7 +62,7 @@ fn is_kind(kind: EntityKind, found: Option<EntityKind>) -> bool
     }
 }
 
-fn is_external(linkage: Linkage) -> bool
+pub(crate) fn is_external(linkage: Linkage) -> bool
     ensures { result ≡ is_external linkage }
 {
     match linkage {

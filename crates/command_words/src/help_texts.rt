@@ -46,6 +46,9 @@ cscout WS batch FILE
 cscout --diff WS COMMAND ..
     prints what `cscout WS COMMAND ..` would print, and behind that the unified diff of each file that would
     change, and changes no file
+cscout --why WORDS ..
+    does what `cscout WORDS ..` would do. Behind `bad command line` and `no name` it then tells which word
+    is bad, or why the place names nothing
 cscout -C DIR WORDS ..
     does in the folder DIR what `cscout WORDS ..` would do there
 cscout generate N

@@ -1,13 +1,14 @@
 //! CScout: renames identifiers of C programs, preprocesses their units, and tells what must be spelled alike.
 //!
 //! `main` hands the words behind the program's name and the real files and streams to `run` of `cscout_run`, which is
-//! the whole program, or what follows the word `--diff` to its `show`, goes to the folder of `-C` before, and ends with the number of the status. Start from
+//! the whole program, or what follows the word `--diff` to its `show`, and behind `--why` calls its `explain` after either. It goes to the folder of `-C`
+//! before, and ends with the number of the status. Start from
 //! `cscout_run`.
 #![tactic(auto)]
 
 use command_words::tell;
 use cs_base::{Files, Sink};
-use cscout_run::{HostFiles, HostSink, Status, run, show};
+use cscout_run::{HostFiles, HostSink, Status, explain, run, show};
 use std::process::ExitCode;
 use std::{env, io};
 
@@ -60,8 +61,34 @@ fn folder_of(words: &[String]) -> Option<(&str, &[String])> {
     }
 }
 
-// Runs the program on the words. Behind `--diff` it shows what would change.
+// Runs the program on the words. Behind `--why` it tells the note behind its message, if there is one.
 fn run_words<F: Files, O: Sink, E: Sink>(
+    rt: &HostRuntime,
+    words: &[String],
+    files: &mut F,
+    out: &mut O,
+    err: &mut E,
+) -> Status {
+    match words.split_first() {
+        Some((first, more)) if first.as_str() == "--why" => {
+            let status = run_command(rt, more, files, out, err);
+            let _told = explain(rt.alloc(), command_of(more), status, files, err);
+            status
+        }
+        _ => run_command(rt, words, files, out, err),
+    }
+}
+
+// The words behind `--diff`, if that is the first.
+fn command_of(words: &[String]) -> &[String] {
+    match words.split_first() {
+        Some((first, more)) if first.as_str() == "--diff" => more,
+        _ => words,
+    }
+}
+
+// Runs the program on the words. Behind `--diff` it shows what would change.
+fn run_command<F: Files, O: Sink, E: Sink>(
     rt: &HostRuntime,
     words: &[String],
     files: &mut F,

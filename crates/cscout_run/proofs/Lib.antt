@@ -7,6 +7,7 @@ pub mod EditLemmas
 pub mod EndLemmas
 pub mod FindLemmas
 pub mod LineLemmas
+pub mod NoteLemmas
 pub mod OnceLemmas
 pub mod OverLemmas
 pub mod PromiseLemmas

@@ -5,6 +5,7 @@ pub mod Trims
 pub mod Answer
 pub mod Outcome
 pub mod Shown
+pub mod Noted
 pub mod Promise
 pub mod Alike
 -- What inner functions promise each other.

@@ -4,7 +4,8 @@
 //! `run` is the whole program over an outside that is handed in: the words, files, a sink for output and one for
 //! messages. It answers as `specs/Answer.antt` says over the files held, and `specs/Outcome.antt` says what stands
 //! where the outside fails. `show` runs it on words behind `--diff`: the diffs of the edits stand behind the output, and
-//! no file is put (`specs/Shown.antt`). `HostFiles` and `HostSink` are the real files and streams, which the program `cscout_cli`
+//! no file is put (`specs/Shown.antt`). `explain` tells behind either what the message does not, on words behind `--why`
+//! (`specs/Noted.antt`). `HostFiles` and `HostSink` are the real files and streams, which the program `cscout_cli`
 //! hands it. What words ask for, the help and the lines of messages stand in the crate `command_words`.
 //!
 //! What is asked over a workspace is a table: `specs/Asks.antt` has a line for each report and each edit, and for each
@@ -22,6 +23,7 @@ mod generating;
 mod host;
 mod laws;
 mod leaving;
+mod noting;
 mod preparing;
 mod reports;
 mod showing;
@@ -35,6 +37,7 @@ mod workspace_files;
 
 pub use host::{HostFiles, HostSink};
 pub use laws::words_and_files_decide;
+pub use noting::explain;
 pub use showing::show;
 pub use status::Status;
 pub use top::run;

@@ -134,9 +134,16 @@ keeps-true r t h = by (cases_Bool (is_identifier t.kind))
     by : (is_identifier t.kind ≡ true) ⊎ (is_identifier t.kind ≡ false) → keeps_text r t.kind t.origins t.text ≡ true
     by (inl name) =
         keeps-name (is_identifier t.kind) (list_all (keeps_word r t.origins t.text) known_words) (cond (is_fixed t.kind) (bytes_eq (spelled r t) t.text) true) name
-        (words-true r t known_words
-        (stays (codes "defined") name h.asks, (stays (codes "__VA_ARGS__") name h.rest, (stays (codes "__VA_OPT__") name h.opts,
-        (stays (codes "__has_include") name h.header, (stays (codes "__has_include_next") name h.next, tt))))))
+        (words-true r t known_words (
+          stays (codes "defined") name h.asks,
+          (
+            stays (codes "__VA_ARGS__") name h.rest,
+            (
+              stays (codes "__VA_OPT__") name h.opts,
+              (stays (codes "__has_include") name h.header, (stays (codes "__has_include_next") name h.next, tt)),
+            ),
+          ),
+        ))
     by (inr other) =
         keeps-other (is_identifier t.kind) (list_all (keeps_word r t.origins t.text) known_words) (cond (is_fixed t.kind) (bytes_eq (spelled r t) t.text) true) other
         (fixed-stays (is_fixed t.kind) (bytes_eq (spelled r t) t.text) (λ fixed. (bytes_eq-Decides (spelled r t) t.text).1 (h.others fixed)))

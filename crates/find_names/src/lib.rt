@@ -5,10 +5,10 @@
 //! `specs/Found.antt`; what an attribute says of a class stands in `specs/Satisfying.antt`, and which classes are in
 //! question in `specs/Question.antt`. How a query is read belongs to `query_words`, which classes a name touches to
 //! `class_marks`, what is unused to `unused_names`. Refused is a word that is no query, by its first fault; want of
-//! memory is answered `Memory`, and so is a query of 2^32 bytes or more. It costs one walk over all names for each kind
-//! of entity, one over the tokens of all files, and one over the members of all classes. The query is read for each
-//! class; one that asks for no spelling, once for all classes with the same attributes. Read the three files, then
-//! `found_classes.rt`.
+//! memory is answered `Memory`, and so is a query of 2^32 bytes or more. It costs one walk over all names, whose classes
+//! are found once for all that is asked of them, one over the tokens of all files, and one over the members of all
+//! classes. The query is read for each class; one that asks for no spelling, once for all classes with the same
+//! attributes. Read the three files, then `found_classes.rt`.
 #![tactic(auto)]
 
 mod class_facts;

@@ -1,9 +1,10 @@
 // Marks on classes for each thing that a query may ask of their names.
 ghost use Rattle.std.specs.Prelude.{IfOk};
+ghost use Rattle.class_marks.specs.Touches.{AreTouches};
 ghost use Rattle.find_names.specs.RoleMarks.{AreKindMarks, AreRoleMarks};
 
 use analysis::{Analysis, EntityKind};
-use class_marks::{Role, marks_of, read_only_files};
+use class_marks::{Role, Touch, marks_by, read_only_files, touches_of};
 use cs_base::Memory;
 use std::alloc::Global;
 
@@ -20,17 +21,18 @@ pub(crate) struct KindMarks {
     pub(crate) labels: Vec<bool>,
 }
 
-fn kind_marks(alloc: Global, a: &Analysis) -> Result<KindMarks, Memory>
+fn kind_marks(alloc: Global, a: &Analysis, names: &[Touch]) -> Result<KindMarks, Memory>
+    requires { AreTouches a.now names.now }
     ensures { IfOk result (AreKindMarks a.now) }
 {
-    let functions = marks_of(alloc, a, Role::OfKind(EntityKind::Function))?;
-    let objects = marks_of(alloc, a, Role::OfKind(EntityKind::Object))?;
-    let typedefs = marks_of(alloc, a, Role::OfKind(EntityKind::Typedef))?;
-    let parameters = marks_of(alloc, a, Role::OfKind(EntityKind::Parameter))?;
-    let enumerators = marks_of(alloc, a, Role::OfKind(EntityKind::Enumerator))?;
-    let tags = marks_of(alloc, a, Role::OfKind(EntityKind::Tag))?;
-    let members = marks_of(alloc, a, Role::OfKind(EntityKind::Member))?;
-    let labels = marks_of(alloc, a, Role::OfKind(EntityKind::Label))?;
+    let functions = marks_by(alloc, a, names, Role::OfKind(EntityKind::Function))?;
+    let objects = marks_by(alloc, a, names, Role::OfKind(EntityKind::Object))?;
+    let typedefs = marks_by(alloc, a, names, Role::OfKind(EntityKind::Typedef))?;
+    let parameters = marks_by(alloc, a, names, Role::OfKind(EntityKind::Parameter))?;
+    let enumerators = marks_by(alloc, a, names, Role::OfKind(EntityKind::Enumerator))?;
+    let tags = marks_by(alloc, a, names, Role::OfKind(EntityKind::Tag))?;
+    let members = marks_by(alloc, a, names, Role::OfKind(EntityKind::Member))?;
+    let labels = marks_by(alloc, a, names, Role::OfKind(EntityKind::Label))?;
     Ok(KindMarks {
         functions,
         objects,
@@ -59,11 +61,13 @@ pub(crate) struct RoleMarks {
 pub(crate) fn role_marks(alloc: Global, a: &Analysis) -> Result<RoleMarks, Memory>
     ensures { IfOk result (AreRoleMarks a.now) }
 {
-    let kinds = kind_marks(alloc, a)?;
-    let macros = marks_of(alloc, a, Role::Defines)?;
-    let externals = marks_of(alloc, a, Role::External)?;
-    let declared = marks_of(alloc, a, Role::Declares)?;
-    let used = marks_of(alloc, a, Role::Uses)?;
+    let touches = touches_of(alloc, a)?;
+    let names = touches.as_slice();
+    let kinds = kind_marks(alloc, a, names)?;
+    let macros = marks_by(alloc, a, names, Role::Defines)?;
+    let externals = marks_by(alloc, a, names, Role::External)?;
+    let declared = marks_by(alloc, a, names, Role::Declares)?;
+    let used = marks_by(alloc, a, names, Role::Uses)?;
     let read_only = read_only_files(alloc, a)?;
     Ok(RoleMarks {
         kinds,

@@ -1,0 +1,4 @@
+use Rattle.usage_notes.proofs.notes.tell_no_command.Goals as goal
+
+pub returns : goal.returns
+returns g c = rw (← c.as_bytes.ensures.value) c.tell_note.ensures

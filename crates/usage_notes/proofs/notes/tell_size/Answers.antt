@@ -1,0 +1,4 @@
+use Rattle.usage_notes.proofs.notes.tell_size.Goals as goal
+
+pub returns : goal.returns
+returns g c = rw (← c.as_bytes.ensures.value) c.tell_note.ensures

@@ -1,0 +1,4 @@
+use Rattle.usage_notes.proofs.places.tell_number.Goals as goal
+
+pub returns : goal.returns
+returns g c = rw (← c.as_bytes.ensures.value) c.tell_note.ensures

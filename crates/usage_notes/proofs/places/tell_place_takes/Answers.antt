@@ -1,0 +1,4 @@
+use Rattle.usage_notes.proofs.places.tell_place_takes.Goals as goal
+
+pub returns : goal.returns
+returns g c = rw (← c.as_bytes.ensures.value) c.tell_place.ensures

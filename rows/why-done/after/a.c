@@ -1,0 +1,4 @@
+int new;
+#if 0
+int two;
+#endif

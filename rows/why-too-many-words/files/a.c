@@ -1,0 +1,4 @@
+int one;
+#if 0
+int two;
+#endif
