@@ -2,6 +2,7 @@
 
 import os
 import random
+import re
 import sys
 import tempfile
 
@@ -20,13 +21,20 @@ class Maker:
     def __init__(self, r):
         self.r = r
         self.many = r.choice([1, 2, 2, 2, 3])
+        self.gnu = r.random() < .4
 
     def parameter(self, k):
         r = self.r
         name = "abcd"[k] if r.random() < .85 else ""
         odd = [f"int (*{name or 'q'})(int {r.choice('abcx')})", f"int {name or 'z'}[sizeof a]" if k else "T a", f"enum {{ E{r.randint(0, 9)} }} {name}",
                f"struct s{r.randint(0, 3)} *{name}", f"struct {{ int b; }} *{name}", f"T {name}", f"void *{name}", f"int {name or 'w'}(int, int)"]
-        return r.choice(odd) if r.random() < .25 else f"{r.choice(['int', 'char', 'long'])} {name}".strip()
+        one = r.choice(odd) if r.random() < .25 else f"{r.choice(['int', 'char', 'long'])} {name}".strip()
+        return one + " __attribute__((unused))" if self.gnu and name and r.random() < .1 else one
+
+    def behind(self):
+        """What may stand behind a declarator of the function in a unit of GNU C."""
+        odd = [" __attribute__((cold))", " __attribute__((nonnull(1)))", " __attribute__((nonnull))", ' asm("f2")', ' __asm__("f2") __attribute__((cold))']
+        return self.r.choice(odd[:1] * 6 + odd) if self.gnu and self.r.random() < .2 else ""
 
     def parameters(self):
         return ", ".join(self.parameter(k) for k in range(self.many))
@@ -37,6 +45,10 @@ class Maker:
             return self.call(depth + 1)
         if r.random() < .6:
             return str(r.randint(0, 9))
+        if self.gnu and r.random() < .4:
+            one = self.expression(depth + 1)
+            return r.choice([f"({one} ?: 2)", f"(typeof(x)) {one}", f"__builtin_expect({one}, 1)", f"__extension__ {one}", f"(int) __alignof__({one})"] * 10
+                            + [f"({{ int k = {one}; k; }})", f"({{ {one}; }})"])
         return r.choice([f"g({self.expression(depth + 1)})", "__LINE__", "ONE", f"ID({self.expression(depth + 1)})", "'2'",
                          f"sizeof(struct q{r.randint(0, 99)} {{ int m; }})", "(1, 2)", "IGN(')", "/* a comment */ 3", "4 \\\n + 5",
                          "sizeof(int (*)(int t))", f"\n#define Q{r.randint(0, 99)} 1\n7"])
@@ -58,6 +70,9 @@ class Maker:
         lines = [f"int v_{unit}(void) {{"]
         for _ in range(r.randint(1, 4)):
             lines.append(r.choice([f"  {self.call()};"] * 6 + [f"  g({self.expression()});", f"  STR({self.call()});", f"  return {self.expression()};"]))
+            if self.gnu and r.random() < .3:
+                lines.append(r.choice([f"  typeof({self.call()}) t{len(lines)} = ({{ {self.call()}; }});", f'  asm volatile ("nop" : : "r" ({self.call()}));',
+                                       f"  ({{ int f = 1; f; }});", f"  case_{len(lines)}: __attribute__((unused)); {self.call()};"]))
         if fragment:
             lines.append('#include "t.inc"')
             lines += r.choice([["#define M(x) #x"], ["#define f M"], []])
@@ -69,10 +84,13 @@ class Maker:
     def unit(self, name, head, fragment):
         r = self.r
         lines = list(head)
-        lines += ["int x, M(int p);"] if fragment else []
+        lines += ["int x, M(int p);"] if fragment or self.gnu else []
+        lines += [r.choice(['asm("call ff");', 'asm(".globl g");', 'asm("call " "f");'])] if self.gnu and r.random() < .1 else []
         lines += ["#if 0\ndon't f(1, 2)\n#endif"] if r.random() < .2 else []
         if name == "a.c" and r.random() < .8:
-            lines.append(f"int f({self.parameters()}) {{ return 0; }}")
+            lines.append(f"{'__attribute__((noinline)) ' if self.gnu and r.random() < .3 else ''}int f({self.parameters()}) {{ return 0; }}")
+            lines += [f"int f({self.parameters()}){self.behind()};"] if self.gnu and r.random() < .3 else []
+            lines += [f'extern int h({self.parameters()}) __attribute__((alias("{r.choice("fg")}")));'] if self.gnu and r.random() < .05 else []
         lines += ["int (*p)() = f;"] if r.random() < .05 else []
         lines.append("int F2(int a, int b);" if r.random() < .05 else "#define F2 ADD")
         if r.random() < .06:
@@ -83,7 +101,7 @@ class Maker:
 
     def files(self):
         r = self.r
-        head = [r.choice(["typedef int T;", "typedef long T;"]), f"int f({self.parameters()});", "int g(int n);"] + MACROS
+        head = [r.choice(["typedef int T;", "typedef long T;"]), f"int f({self.parameters()}){self.behind()};", "int g(int n);"] + MACROS
         units = r.choice([["a.c"], ["a.c"], ["a.c", "b.c"]])
         shared, fragment = r.random() < .6, r.random() < .25
         files = {"h.h": "\n".join(head) + "\n"} if shared else {}
@@ -91,7 +109,7 @@ class Maker:
             files["t.inc"] = self.fragment()
         for name in units:
             files[name] = self.unit(name, ['#include "h.h"'] if shared else head, fragment)
-        workspace = ("project p\n" if r.random() < .5 else "") + "".join(f"file {name}\n" for name in units)
+        workspace = ("project p\n" if r.random() < .5 else "") + ("standard gnu11\n" if self.gnu else "") + "".join(f"file {name}\n" for name in units)
         files["w.cs"] = workspace + ("readonly h.h\n" if r.random() < .05 else "")
         return {os.fsencode(path): text.encode() for path, text in files.items()}, "h.h" if shared else "a.c"
 
@@ -104,13 +122,72 @@ class Maker:
         return ",".join(map(str, numbers))
 
 
+class GnuMaker(Maker):
+    """Makes files of GNU C with much of what that has and few offences, so that most orders are accepted."""
+
+    def __init__(self, r):
+        super().__init__(r)
+        self.many, self.gnu = r.choice([1, 2, 2, 3, 3, 4]), True
+
+    def parameter(self, k):
+        name = "abcd"[k]
+        one = self.r.choice(["int {}", "char {}", "unsigned {}", "T {}", "void *{}", "int (*{})(int x)", "typeof(int) {}", "__typeof__(1) {}",
+                             "int {}[3]", "const char *restrict {}", "int __attribute__((aligned(4))) {}"]).format(name)
+        return one + (" __attribute__((unused))" if self.r.random() < .2 else "")
+
+    def behind(self):
+        return self.r.choice([""] * 12 + [f" __attribute__(({word}))" for word in ("cold", "nonnull", "warn_unused_result, pure", "nonnull(1)")])
+
+    def expression(self, depth=0):
+        r = self.r
+        if depth < 3 and r.random() < .35:
+            return self.call(depth + 1)
+        if depth > 4 or r.random() < .3:
+            return str(r.randint(0, 9))
+        form = r.choice(["({} ?: 2)", "(typeof(x)) {}", "__builtin_expect({}, 1)", "__extension__ {}", "(int) __alignof__({})", "g({})", "ONE", "ID({})",
+                         "'2'", "(1, {})", "/* a comment */ 3", "4 \\\n + 5", "sizeof(int)", "({}, {})", "(int []){{ {}, [1] = {} }}[0]", "{} ? {} : {}",
+                         "_Generic({}, int: {}, default: {})", "__builtin_choose_expr(1, {}, {})", "sizeof(typeof({}))", "(__typeof__({})) {}",
+                         "__builtin_types_compatible_p(int, T)", "(struct k){{0}}.m", "-{}", "x"])
+        return form.format(*(self.expression(depth + 1) for _ in range(3)))
+
+    def call(self, depth=0):
+        r = self.r
+        name = r.choice(["f"] * 100 + ["(f)", "ADD"])
+        return f"{name}(" + r.choice([", ", ",", ", ", " ,\n "]).join(self.expression(depth + 1) for _ in range(self.many)) + ")"
+
+    def fragment(self):
+        return ""
+
+    def body(self, unit, fragment):
+        r = self.r
+        local = r.random() < .3
+        lines = [f"int v_{unit}(void) {{"] + ["  __label__ out;"] * local
+        for n in range(r.randint(2, 6)):
+            form = r.choice(["{};", "typeof({}) t_ = ({{ {}; }});", 'asm volatile ("nop" : : "r" ({}));', "({{ int f = 1; f; }});",
+                             "m_: __attribute__((unused)); {};", "int k_ = ({{ int f_ = {}; f_; }});", "__auto_type a_ = {};",
+                             "switch ({}) {{ case 1 ... 3: {}; }}", "int z_[] = {{ [0 ... 2] = {}, }};",
+                             "if (({{ {}; }})) {{ {}; }}", "for (int i_ = {}; i_ < {}; i_++) {};", '_Static_assert(1, "f");', "void *l_ = &&e_; e_: {};",
+                             'asm ("" : "=r" (x) : "0" ({}) : "memory");', "return {};", "while ({}) {{ typeof({}) w; }}"])
+            lines.append("  " + re.sub(r"\b([a-z])_\b", rf"\g<1>{n}", form).format(*(self.call() for _ in range(3))))
+        return lines + ["  out: ;"] * local + ["}"]
+
+    def unit(self, name, head, fragment):
+        r = self.r
+        lines = list(head) + ["int x; struct k { int m; };"]
+        lines += [r.choice(['asm("call ff");', 'asm(".globl g");', 'asm("call " "f");'])] if r.random() < .05 else []
+        if name == "a.c" and r.random() < .9:
+            lines.append(f"{'__attribute__((noinline)) ' if r.random() < .3 else ''}int f({self.parameters()}) {{ return 0; }}")
+            lines += [f"extern __typeof__(int) f({self.parameters()}){self.behind()};"] if r.random() < .3 else []
+        return "\n".join(lines + self.body(name[0], fragment)) + "\n"
+
+
 def main():
-    program, seed, count = sys.argv[1], int(sys.argv[2]), int(sys.argv[3])
+    program, seed, count, gnu = sys.argv[1], int(sys.argv[2]), int(sys.argv[3]), sys.argv[4:] == ["gnu"]
     r, answers, differ = random.Random(seed), {}, 0
     with tempfile.TemporaryDirectory() as scratch:
         runner = Runner(program, scratch)
         for _ in range(count):
-            maker = Maker(r)
+            maker = (GnuMaker if gnu else Maker)(r)
             files, path = maker.files()
             words = ["w.cs", "template", path, "2", "5" if r.random() < .95 else str(r.randint(1, 9)), maker.order()]
             want, copy = wanted(words, files), runner.copy(files)

@@ -12,9 +12,10 @@ use Rattle.include_tree.specs.Below.source_files.Tables.{AreFound}
 use Rattle.include_tree.specs.Below.unit_steps.State.{Context, context, State, Outcome}
 use Rattle.include_tree.specs.OpeningStep.{open_file}
 use Rattle.include_tree.specs.Walk.{file_items}
-use Rattle.include_tree.specs.Unit.{first_state, outer_file, main_file, unit_outcome}
+use Rattle.include_tree.specs.Unit.{pseudo_path, first_state, outer_file, main_file, unit_outcome}
 use Rattle.include_tree.specs.Preprocessed.{Preprocessed, preprocessed, preprocessed_by}
 use Rattle.include_tree.specs.Laws.{IfDone}
+use Rattle.include_tree.proofs.DefinesLemmas.{with_defines_has}
 use Rattle.include_tree.proofs.Below.source_files.TableLemmas.{widens_asked, widens_opened}
 use Rattle.include_tree.proofs.OutcomeLemmas.{onward_done}
 use Rattle.include_tree.proofs.StayLemmas.{IsStable, Stays, open_file_stays}
@@ -51,9 +52,10 @@ module _ (source : Source) where
   unit_found limits reader number unit before h =
       let ctx : Context = context source reader unit limits before.toks in
       let s : State = first_state limits number unit before.table in
-      let first = found_push source before.table (defines_path number) (defines_of unit) h in
-      onward_done (Stays {A = List Token} Found) (Stays {A = List Token} Found) (outer_file ctx (defines_path number) s) _
-      (outer_found reader unit limits before.toks (defines_path number) s first)
+      let first = with_defines_has Found number unit before.table h (found_push source before.table (defines_path number) (defines_of unit) h) in
+      let own : List ℕ = pseudo_path number unit before.table in
+      onward_done (Stays {A = List Token} Found) (Stays {A = List Token} Found) (outer_file ctx own s) _
+      (outer_found reader unit limits before.toks own s first)
       (λ toks t g. onward_done (Stays {A = List Token} Found) (Stays {A = List Token} Found) (main_file ctx unit.path t) _
       (outer_found reader unit limits before.toks unit.path (record t { table = asked source unit.path t.table }) ((widens_asked source unit.path t.table).found g))
       (λ more u f. f))

@@ -15,9 +15,10 @@ use Rattle.include_tree.specs.Below.unit_steps.State.{Context, context, State, O
 use Rattle.include_tree.specs.Below.source_files.Opening.{Reader}
 use Rattle.include_tree.specs.OpeningStep.{open_file}
 use Rattle.include_tree.specs.Walk.{file_items}
-use Rattle.include_tree.specs.Unit.{first_state, outer_file, main_file, unit_outcome}
+use Rattle.include_tree.specs.Unit.{pseudo_path, first_state, outer_file, main_file, unit_outcome}
 use Rattle.include_tree.specs.Preprocessed.{Preprocessed, preprocessed, preprocessed_by}
 use Rattle.include_tree.specs.Laws.{IfDone}
+use Rattle.include_tree.proofs.DefinesLemmas.{with_defines_has}
 use Rattle.include_tree.proofs.OutcomeLemmas.{onward_done}
 use Rattle.include_tree.proofs.StayLemmas.{IsStable, Stays, open_file_stays}
 use Rattle.include_tree.proofs.StayingWalk.{files_stay}
@@ -73,8 +74,9 @@ unit_made : (limits : Limits) (reader : Reader) (source : Source) (number : ℕ)
 unit_made limits reader source number unit before h =
     let ctx : Context = context source reader unit limits before.toks in
     let s : State = first_state limits number unit before.table in
-    let first = made-push (defines_path number) (Made (defines_of unit)) before.table refl h in
-    onward_done (Stays {A = List Token} MadeArePseudo) (Stays {A = List Token} MadeArePseudo) (outer_file ctx (defines_path number) s) _ (outer_made ctx (defines_path number) s first)
+    let first = with_defines_has MadeArePseudo number unit before.table h (made-push (defines_path number) (Made (defines_of unit)) before.table refl h) in
+    let own : List ℕ = pseudo_path number unit before.table in
+    onward_done (Stays {A = List Token} MadeArePseudo) (Stays {A = List Token} MadeArePseudo) (outer_file ctx own s) _ (outer_made ctx own s first)
     (λ toks t g. onward_done (Stays {A = List Token} MadeArePseudo) (Stays {A = List Token} MadeArePseudo) (main_file ctx unit.path t) _ (main_made ctx unit.path t g)
     (λ more u f. f))
 

@@ -19,10 +19,11 @@ use Rattle.include_tree.specs.Below.unit_steps.State.{Context, context, State, O
 use Rattle.include_tree.specs.Below.source_files.Opening.{Reader, Opening, file_read, readable, are_too_many, first_opened, opened_as, opening}
 use Rattle.include_tree.specs.OpeningStep.{with_opened, open_file}
 use Rattle.include_tree.specs.PseudoFiles.{is_pseudo}
-use Rattle.include_tree.specs.Unit.{first_state, outer_file, main_file, unit_outcome}
+use Rattle.include_tree.specs.Unit.{pseudo_path, first_state, outer_file, main_file, unit_outcome}
 use Rattle.include_tree.specs.Preprocessed.{Preprocessed, preprocessed, preprocessed_by}
 use Rattle.include_tree.specs.Laws.{IfDone}
 use Rattle.include_tree.specs.Walk.{file_items}
+use Rattle.include_tree.proofs.DefinesLemmas.{with_defines_has}
 use Rattle.include_tree.proofs.OutcomeLemmas.{onward_done}
 use Rattle.include_tree.proofs.Below.source_files.SourcesLemmas.{found-opened}
 use Rattle.include_tree.proofs.StayLemmas.{IsStable, Stays, open_file_stays}
@@ -158,8 +159,9 @@ unit_opens : (limits : Limits) (reader : Reader) (source : Source) (number : ℕ
 unit_opens limits reader source number unit before real h =
     let ctx : Context = context source reader unit limits before.toks in
     let s : State = first_state limits number unit before.table in
-    let first = made-push (defines_path number) (Made (defines_of unit)) before.table refl h in
-    onward_done (Stays {A = List Token} MadeArePseudo) (Stays {A = List Token} (IsOpened unit.path)) (outer_file ctx (defines_path number) s) _ (outer_made ctx (defines_path number) s first)
+    let first = with_defines_has MadeArePseudo number unit before.table h (made-push (defines_path number) (Made (defines_of unit)) before.table refl h) in
+    let own : List ℕ = pseudo_path number unit before.table in
+    onward_done (Stays {A = List Token} MadeArePseudo) (Stays {A = List Token} (IsOpened unit.path)) (outer_file ctx own s) _ (outer_made ctx own s first)
     (λ toks t g. onward_done (Stays {A = List Token} (IsOpened unit.path)) (Stays {A = List Token} (IsOpened unit.path)) (main_file ctx unit.path t) _
     (outer_opens ctx unit.path (record t { table = asked ctx.source unit.path t.table }) real (asked_made unit.path (ctx.source unit.path) t.table (found_at unit.path t.table) g))
     (λ more u f. f))
@@ -177,8 +179,9 @@ unit_keeps : (path : List ℕ) (limits : Limits) (reader : Reader) (source : Sou
 unit_keeps path limits reader source number unit before h =
     let ctx : Context = context source reader unit limits before.toks in
     let s : State = first_state limits number unit before.table in
-    let first = opened-push path (defines_path number) (Made (defines_of unit)) before.table h in
-    onward_done (Stays {A = List Token} (IsOpened path)) (Stays {A = List Token} (IsOpened path)) (outer_file ctx (defines_path number) s) _ (outer_keeps ctx path (defines_path number) s first)
+    let first = with_defines_has (IsOpened path) number unit before.table h (opened-push path (defines_path number) (Made (defines_of unit)) before.table h) in
+    let own : List ℕ = pseudo_path number unit before.table in
+    onward_done (Stays {A = List Token} (IsOpened path)) (Stays {A = List Token} (IsOpened path)) (outer_file ctx own s) _ (outer_keeps ctx path own s first)
     (λ toks t g. onward_done (Stays {A = List Token} (IsOpened path)) (Stays {A = List Token} (IsOpened path)) (main_file ctx unit.path t) _
     (outer_keeps ctx path unit.path (record t { table = asked ctx.source unit.path t.table }) (opened_asked path unit.path (ctx.source unit.path) t.table (found_at unit.path t.table) g))
     (λ more u f. f))

@@ -29,6 +29,7 @@ pub mod Adding
 pub mod BroughtNumbers
 pub mod AnalysisFields
 pub mod Trees
+pub mod UnitFronts
 pub mod AnalysisAnswers
 -- Words of the crates below, passed on.
 pub mod Below

@@ -13,8 +13,8 @@ ghost use Rattle.analysis.specs.Accepting.{passed, passed_with, units_of};
 use crate::accepted::{Accepted, UnitParts};
 use crate::analyse_fault::AnalyseFault;
 use crate::preprocessing::next_text;
+use crate::unit_fronts::UnitFront;
 use crate::unit_reading::read_text;
-use c99_read::Front;
 use cs_base::{Files, Memory, Unit};
 use include_tree::Cache;
 use std::alloc::Global;
@@ -91,7 +91,7 @@ fn next_unit<F: Files>(
     alloc: Global,
     cache: &mut Cache,
     files: &mut F,
-    fronts: &mut Vec<Front>,
+    fronts: &mut Vec<UnitFront>,
     before: Option<&UnitParts>,
     unit: &Unit,
     number: u32,

@@ -2,9 +2,8 @@
 // that begin so.
 ghost use Rattle.std.specs.Prelude.{◌≡◌, ◌≤◌, length, true, IfOk, IfSome};
 ghost use Rattle.c99_read.specs.Fronts.{BeginsWith};
-ghost use Rattle.c99_read.specs.Below.c99_grammar.Dialects.{dialect};
 
-use c99_read::{Dialect, Front};
+use crate::unit_fronts::UnitFront;
 use cs_base::{Kind, Memory, Standard, Tok};
 use std::alloc::Global;
 
@@ -83,13 +82,13 @@ fn copies(alloc: Global, toks: &[Tok], count: usize) -> Result<Vec<Tok>, Memory>
 
 /// The front with which the tokens begin by the standard, and of several the longest.
 pub(crate) fn front_of<'a>(
-    fronts: &'a [Front],
+    fronts: &'a [UnitFront],
     toks: &[Tok],
     standard: Standard,
-) -> Option<&'a Front>
-    ensures { IfSome result (λ f. (f.now.dialect ≡ dialect standard) × BeginsWith toks.now f.now) }
+) -> Option<&'a UnitFront>
+    ensures { IfSome result (λ f. (f.now.standard ≡ standard) × BeginsWith toks.now f.now.reading) }
 {
-    let mut longest: Option<&'a Front> = None;
+    let mut longest: Option<&'a UnitFront> = None;
     let count = fronts.len();
     'fronts: for k in 0..count {
         longest = longer(longest, &fronts[k], toks, standard);
@@ -98,18 +97,16 @@ pub(crate) fn front_of<'a>(
 }
 
 fn longer<'a>(
-    longest: Option<&'a Front>,
-    front: &'a Front,
+    longest: Option<&'a UnitFront>,
+    front: &'a UnitFront,
     toks: &[Tok],
     standard: Standard,
-) -> Option<&'a Front>
-    requires { IfSome longest (λ f. (f.now.dialect ≡ dialect standard) × BeginsWith toks.now f.now) }
-    ensures { IfSome result (λ f. (f.now.dialect ≡ dialect standard) × BeginsWith toks.now f.now) }
+) -> Option<&'a UnitFront>
+    requires { IfSome longest (λ f. (f.now.standard ≡ standard) × BeginsWith toks.now f.now.reading) }
+    ensures { IfSome result (λ f. (f.now.standard ≡ standard) × BeginsWith toks.now f.now.reading) }
 {
-    if end_of(longest) < front.at()
-        && front.dialect() == Dialect::of(standard)
-        && front.begins(toks)
-    {
+    let reading = front.reading();
+    if end_of(longest) < reading.at() && front.standard() == standard && reading.begins(toks) {
         Some(front)
     } else {
         longest
@@ -117,9 +114,9 @@ fn longer<'a>(
 }
 
 // Where the front ends, if there is one.
-fn end_of(front: Option<&Front>) -> usize {
+fn end_of(front: Option<&UnitFront>) -> usize {
     match front {
-        Some(front) => front.at(),
+        Some(front) => front.reading().at(),
         None => 0,
     }
 }
@@ -128,7 +125,7 @@ fn end_of(front: Option<&Front>) -> usize {
 /// some tokens.
 pub(crate) fn learn(
     alloc: Global,
-    fronts: &mut Vec<Front>,
+    fronts: &mut Vec<UnitFront>,
     before: &[Tok],
     toks: &[Tok],
     standard: Standard,
@@ -143,13 +140,13 @@ pub(crate) fn learn(
         return Ok(());
     }
     let seen = copies(alloc, toks, end.saturating_add(2))?;
-    match Front::of(alloc, seen, end, Dialect::of(standard))? {
+    match UnitFront::of(alloc, seen, end, standard)? {
         Some(front) => keep(fronts, front),
         None => Ok(()),
     }
 }
 
-fn keep(fronts: &mut Vec<Front>, front: Front) -> Result<(), Memory> {
+fn keep(fronts: &mut Vec<UnitFront>, front: UnitFront) -> Result<(), Memory> {
     if fronts.len() >= MOST {
         fronts.remove(0);
     }

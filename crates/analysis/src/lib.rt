@@ -50,6 +50,7 @@ mod reading;
 mod spelling;
 mod tables;
 mod token_search;
+mod unit_fronts;
 mod unit_reading;
 
 pub use accepted::UnitParts;

@@ -12,17 +12,17 @@ ghost use Rattle.analysis.specs.Trees.{HasTree};
 ghost use Rattle.analysis.specs.Accepting.{told_of_stop, told_fault, MayTell, IsNoReadFault};
 ghost use Rattle.c99_tree.specs.Joined.{followed};
 ghost use Rattle.c99_read.specs.Fronts.{BeginsWith};
-ghost use Rattle.c99_read.specs.Below.c99_grammar.Dialects.{dialect};
 
 use crate::accepted::UnitParts;
 use crate::analyse_fault::AnalyseFault;
 use crate::fault_places::place_of_index;
 use crate::fronts::{front_of, learn};
 use crate::reading::{read_toks, read_toks_from};
-use c99_read::{Front, ReadRefusal};
+use crate::unit_fronts::UnitFront;
+use c99_read::ReadRefusal;
 use c99_tree::Tree;
 use cs_base::{Cause, Memory, Standard, Tok};
-use gnu_bind::{BindRefusal, bind_behind_by, bind_by};
+use gnu_bind::{BindRefusal, bind_by};
 use include_tree::{Cache, UnitText};
 use std::alloc::Global;
 
@@ -32,7 +32,7 @@ use std::alloc::Global;
 pub(crate) fn read_text(
     alloc: Global,
     cache: &Cache,
-    fronts: &mut Vec<Front>,
+    fronts: &mut Vec<UnitFront>,
     before: Option<&UnitParts>,
     number: u32,
     standard: Standard,
@@ -59,7 +59,7 @@ pub(crate) fn read_text(
 // What the tokens have in common with the unit before is kept.
 fn learn_of(
     alloc: Global,
-    fronts: &mut Vec<Front>,
+    fronts: &mut Vec<UnitFront>,
     before: Option<&UnitParts>,
     toks: &[Tok],
     standard: Standard,
@@ -80,7 +80,7 @@ fn learn_of(
 fn read_known(
     alloc: Global,
     cache: &Cache,
-    fronts: &[Front],
+    fronts: &[UnitFront],
     number: u32,
     standard: Standard,
     path: &[u8],
@@ -124,28 +124,19 @@ fn read_whole(
 fn read_behind(
     alloc: Global,
     cache: &Cache,
-    front: &Front,
+    front: &UnitFront,
     number: u32,
     standard: Standard,
     path: &[u8],
     text: UnitText,
 ) -> Result<UnitParts, AnalyseFault>
-    requires by { front.now.dialect ≡ dialect standard }
-    requires begins { BeginsWith text.toks front.now }
+    requires by { front.now.standard ≡ standard }
+    requires begins { BeginsWith text.toks front.now.reading }
     ensures answer { Gives (λ u. u) fault_of result (result_map_err (unit_fault number) (read_unit standard cache.now.table path.now text)) }
     ensures no_read { IfErr result IsNoReadFault }
 {
-    match read_toks_from(alloc, front, text.toks(), standard) {
-        Ok(rest) => bind_behind(
-            alloc,
-            cache,
-            number,
-            standard,
-            path,
-            text,
-            front.tree(),
-            &rest,
-        ),
+    match read_toks_from(alloc, front.reading(), text.toks(), standard) {
+        Ok(rest) => bind_behind(alloc, cache, front, number, standard, path, text, &rest),
         Err(refusal) => Err(refused(
             alloc,
             cache,
@@ -157,23 +148,25 @@ fn read_behind(
     }
 }
 
-// Binds a unit whose tokens have this tree, told in two parts.
+// Binds a unit that begins with the front, and whose tokens have this tree behind it.
 fn bind_behind(
     alloc: Global,
     cache: &Cache,
+    front: &UnitFront,
     number: u32,
     standard: Standard,
     path: &[u8],
     text: UnitText,
-    front: &Tree,
     rest: &Tree,
 ) -> Result<UnitParts, AnalyseFault>
-    requires read { HasTree standard text.toks (followed front.now rest.now) }
-    ensures answer { Gives (λ u. u) fault_of result (result_map_err (unit_fault number) (bound_unit standard cache.now.table path.now text (followed front.now rest.now))) }
+    requires by { front.now.standard ≡ standard }
+    requires begins { BeginsWith text.toks front.now.reading }
+    requires read { HasTree standard text.toks (followed front.now.reading.tree rest.now) }
+    ensures answer { Gives (λ u. u) fault_of result (result_map_err (unit_fault number) (bound_unit standard cache.now.table path.now text (followed front.now.reading.tree rest.now))) }
     ensures no_read { IfErr result IsNoReadFault }
 {
-    match bind_behind_by(alloc, text.toks(), front, rest, standard) {
-        Ok(bound) => Ok(UnitParts::behind(standard, text, front, rest, bound)),
+    match front.bind(alloc, text.toks(), rest) {
+        Ok(bound) => Ok(UnitParts::behind(standard, text, front.reading().tree(), rest, bound)),
         Err(refusal) => Err(refused(
             alloc,
             cache,

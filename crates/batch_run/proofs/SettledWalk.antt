@@ -25,8 +25,9 @@ use Rattle.analysis.specs.Below.unit_steps.Conditions.{asked_toks, judged}
 use Rattle.analysis.specs.Below.unit_steps.Questions.{Question, Unasked, Looks, Lacks, asks_next, questions_from, found_as}
 use Rattle.analysis.specs.Below.include_tree.Asking.{is_there, look_for, look, looked, gnu_known, gnu_asked, gnu_holds, asks_files, opens_in, goes_in}
 use Rattle.analysis.specs.Below.include_tree.Walk.{ItemText, items_in, processed, Stepped, stepped, go_on, opens, goes_on, reaching_alive, in_section, turned, is_foreign, foreign_line, item_step, file_end, walk, file_items}
-use Rattle.analysis.specs.Below.include_tree.Unit.{first_state, outer_file, main_file, unit_outcome}
+use Rattle.analysis.specs.Below.include_tree.Unit.{pseudo_path, first_state, outer_file, main_file, unit_outcome}
 use Rattle.analysis.specs.Below.include_tree.Laws.{IfDone}
+use Rattle.analysis.proofs.Below.include_tree.DefinesLemmas.{with_defines_has}
 use Rattle.analysis.proofs.Below.include_tree.OutcomeLemmas.{noted_done, onward_done, cond_done}
 use Rattle.analysis.proofs.Below.include_tree.StayLemmas.{Stays, expanded_stays, run_stays, define_stays, undef_stays, asks_stays, asked_stays, judged_stays, holds_stays}
 use Rattle.batch_run.proofs.SettledTables.{AreSettled, SettledBut, settled_push, but_all, asked_but, open_settles, is_there_settles, header_settles as found_settles}
@@ -315,9 +316,10 @@ pub unit_settles : (limits : Limits) (reader : Reader) (source : Source) (number
 unit_settles limits reader source number unit before h =
     let ctx : Context = context source reader unit limits before.toks in
     let s : State = first_state limits number unit before.table in
-    let made = settled_push (defines_path number) (Made (defines_of unit)) before.table tt h in
-    onward_done (Stays {A = List Token} AreSettled) (Stays {A = List Token} AreSettled) (outer_file ctx (defines_path number) s) _
-    (outer_settles ctx (defines_path number) s (but_all (defines_path number) s.table made))
+    let made = with_defines_has AreSettled number unit before.table h (settled_push (defines_path number) (Made (defines_of unit)) before.table tt h) in
+    let own : List ℕ = pseudo_path number unit before.table in
+    onward_done (Stays {A = List Token} AreSettled) (Stays {A = List Token} AreSettled) (outer_file ctx own s) _
+    (outer_settles ctx own s (but_all own s.table made))
     (λ toks t g. onward_done (Stays {A = List Token} AreSettled) (Stays {A = List Token} AreSettled) (main_file ctx unit.path t) _
     (outer_settles ctx unit.path (record t { table = asked ctx.source unit.path t.table }) (asked_but ctx.source unit.path t.table g))
     (λ more u f. f))

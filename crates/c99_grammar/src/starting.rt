@@ -216,6 +216,8 @@ pub fn starts(item: &Item, class: Class, behind: Class, dialect: Dialect) -> boo
         Item::Part(production) => production_starts(*production, class, behind, dialect),
         Item::EndOfText => is_end(class),
         Item::Act(_) => false,
+        // Most lists begin with a token.
+        Item::Then(Item::One(classes), _) => is_among(class, classes),
         Item::Then(first, second) => {
             if is_passed(first) {
                 starts(first, class, behind, dialect) || starts(second, class, behind, dialect)

@@ -7,7 +7,7 @@ use Rattle.std.proofs.lemmas.Bool.{cases_Bool, ltb-true, ltb-false}
 use Rattle.cs_base.specs.Answer.{Gives}
 use Rattle.cs_base.specs.Token.{Token}
 use Rattle.c99_tree.specs.Joined.{joined, followed}
-use Rattle.c99_tree.specs.Tree.{Forest, none, token, node, Node, leaf, inner, put, node_of}
+use Rattle.c99_tree.specs.Tree.{Forest, none, token, node, Node, inner, put, node_of}
 use Rattle.c99_tree.specs.declared.production.Production.TheVariants.{TranslationUnit, External}
 use Rattle.c99_grammar.specs.declared.dialects.Dialect.{Dialect}
 use Rattle.c99_grammar.specs.declared.dialects.Dialect.TheVariants.{Iso, Gnu}
@@ -15,7 +15,7 @@ use Rattle.c99_grammar.specs.declared.dialects.Edition.TheVariants.{C99, C11}
 use Rattle.c99_grammar.specs.declared.classes.Class.TheVariants.{End, NoClass}
 use Rattle.c99_grammar.specs.TokenClasses.{base_class, class_of_kind}
 use Rattle.c99_grammar.specs.Classes.{among}
-use Rattle.c99_grammar.specs.Items.{Item, part, end_of_text, ◌·◌, many, own, plain, Alternative}
+use Rattle.c99_grammar.specs.Items.{Item, part, end_of_text, ◌·◌, many, own, plain}
 use Rattle.c99_grammar.specs.Standard.{Grammar, grammar}
 use Rattle.c99_read.specs.declared.faults.ReadRefusal.{ReadRefusal}
 use Rattle.c99_read.specs.declared.faults.ReadRefusal.TheVariants as refusal
@@ -25,7 +25,7 @@ use Rattle.c99_read.specs.declared.reader.Stand.{Stand}
 use Rattle.c99_read.specs.Standing.{IsStand}
 use Rattle.c99_read.specs.Fronts.{external, externals, behind_children, unit_of, BeginsWith, FrontValue, front_value, IsFront, IsSameNode, state_in}
 use Rattle.c99_read.proofs.Alike.{swapped, Same, same_whole}
-use Rattle.c99_read.specs.Reading.{Stop, Step, and_then, may, step, alternative, pick, run, whole, produce, repeat, syntax, too_deep, at_first, at_end, tree_of, read_of, tokens_left}
+use Rattle.c99_read.specs.Reading.{Stop, Step, and_then, may, step, alternative, pick, whole, produce, repeat, syntax, too_deep, at_first, at_end, tree_of, read_of, tokens_left}
 use Rattle.c99_read.specs.State.{State, base_at, spelling_at, class_at, opened, closed}
 use Rattle.c99_read.proofs.C99Sound.{grammar-sound}
 use Rattle.c99_read.proofs.Fronts.{fronts_read_alike}

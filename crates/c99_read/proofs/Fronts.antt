@@ -1,8 +1,8 @@
 -- What is read of a text, looking at its first tokens alone, is read of each text that begins with them.
-use Rattle.std.proofs.Common.{ℕ, suc, zero, ◌+◌, ◌-◌, ◌*◌, ◌<◌, ◌≤◌, ◌≡◌, Bool, true, false, ◌&&◌, if◌then◌else◌, unwrap_or, List, [], ◌∷◌, ◌++◌, length, take, slice_get, Option, None, Some, Ok, Err, nat_lt, ◌==◌, refl, sym, ap, subst, ◌∙◌, arith, add-one}
+use Rattle.std.proofs.Common.{ℕ, suc, zero, ◌+◌, ◌-◌, ◌<◌, ◌≤◌, ◌≡◌, Bool, true, false, ◌&&◌, if◌then◌else◌, unwrap_or, List, [], ◌∷◌, ◌++◌, length, take, slice_get, Option, None, Some, Ok, Err, nat_lt, ◌==◌, refl, sym, ap, subst, ◌∙◌, arith}
 use Rattle.std.specs.Option.{option_map_or}
 use Rattle.std.specs.Str.{bytes_eq}
-use Rattle.std.proofs.lemmas.Bool.{lt-ltb, cases_Bool, eqb-false, ne_eqb}
+use Rattle.std.proofs.lemmas.Bool.{lt-ltb, ne_eqb}
 use Rattle.cs_base.specs.Token.{Token}
 use Rattle.c99_tree.specs.Names.{latest}
 use Rattle.c99_tree.specs.Tree.{Forest, none, token, node, Node, Part, leaf, inner, put, lone, collapsed}
@@ -17,7 +17,7 @@ use Rattle.c99_grammar.specs.Standard.{Grammar, grammar}
 use Rattle.c99_grammar.specs.Starting.{holds, starts}
 use Rattle.c99_read.specs.declared.names.Declaration.{Declaration}
 use Rattle.c99_read.specs.Fronts.{external, externals, BeginAlike, FrontsReadAlike}
-use Rattle.c99_read.specs.Reading.{Goal, produce, repeat, Step, and_then, goal_order, steps_for, at_first, take_one, at_end, enter, may, step, alternative, pick, run, read_within, whole}
+use Rattle.c99_read.specs.Reading.{Goal, produce, repeat, Step, and_then, steps_for, at_first, take_one, at_end, enter, may, step, alternative, pick, run, read_within, whole}
 use Rattle.c99_read.specs.Sound.{is_met, IsSound}
 use Rattle.c99_read.specs.State.{State, Names, Head, base_at, spelling_at, spelled_scope, is_typedef_at, is_identifier, class_at, has_name, is_declaring, name_below, last_declared, last_identifier, in_innermost, declaration, with_declared, with_scope_ended, given_names, acted, opened, closed, collapses, is_declarator, names_opened, names_closed, head_closed, with_head, finished}
 use Rattle.c99_read.proofs.C99Sound.{grammar-sound}

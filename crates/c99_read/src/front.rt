@@ -124,6 +124,13 @@ impl Front {
         &self.tree
     }
 
+    /// The tokens that have been seen.
+    pub fn toks(&self) -> &[Tok]
+        ensures { result.now ≡ self.now.toks }
+    {
+        self.toks.as_slice()
+    }
+
     /// How many tokens have been seen.
     pub fn len(&self) -> usize
         ensures { result ≡ length self.now.toks }

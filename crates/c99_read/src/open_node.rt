@@ -65,7 +65,7 @@ impl OpenNode {
         ensures { IfOk result (λ tree. tree ≡ self) }
     {
         let OpenNode { mut tree, last } = self;
-        push_last(&mut tree, last)?;
+        end_last(&mut tree, last)?;
         Ok(tree)
     }
 
@@ -79,7 +79,7 @@ impl OpenNode {
                 if tree.len() == 0 {
                     return Ok(only);
                 }
-                tree.push_node(only)?;
+                tree.end_with(only)?;
                 Ok(tree.collapsed())
             }
             None => Ok(tree.collapsed()),
@@ -120,6 +120,16 @@ fn push_last(tree: &mut Tree, last: Option<Tree>) -> Result<(), Memory>
 {
     match last {
         Some(node) => tree.push_node(node),
+        None => Ok(()),
+    }
+}
+
+// The same, and none follows.
+fn end_last(tree: &mut Tree, last: Option<Tree>) -> Result<(), Memory>
+    ensures { OnOk result (tree.new ≡ with_last tree.old last) }
+{
+    match last {
+        Some(node) => tree.end_with(node),
         None => Ok(()),
     }
 }

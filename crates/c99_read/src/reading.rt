@@ -67,6 +67,7 @@ impl<'a> Reader<'a> {
     }
 
     #[cycle(reading)]
+    #[inline(never)]
     // The node of an operand and of what operators join to it: the innermost operand is read, and then each production
     // over it, from the innermost out. Most have no operator, and are their operand. All of them have one frame.
     fn binary(
@@ -248,6 +249,7 @@ impl<'a> Reader<'a> {
     }
 
     #[cycle(reading)]
+    #[inline(never)]
     // The node of an alternative that is one production, where it is left out.
     fn alone(
         &mut self,
@@ -268,6 +270,7 @@ impl<'a> Reader<'a> {
     }
 
     #[cycle(reading)]
+    #[inline(never)]
     // The node of an alternative that begins with a production and may end there.
     fn led(
         &mut self,
@@ -299,6 +302,7 @@ impl<'a> Reader<'a> {
     }
 
     #[cycle(reading)]
+    #[inline(never)]
     // A node is opened, its items are read, and it is closed.
     fn opened(
         &mut self,

@@ -58,12 +58,12 @@ pub enum Child<'a> {
     Node(&'a Tree),
 }
 
-// Adds a child. Most nodes have few: up to four they take no more room than they need.
-fn push(children: &mut Vec<Branch>, branch: Branch) -> Result<(), Memory>
+// Adds a child. The last one takes no more room than it needs.
+fn push(children: &mut Vec<Branch>, branch: Branch, is_last: bool) -> Result<(), Memory>
     ensures items { OnOk result (children.new.items ≡ children.old.items ++ branch ∷ []) }
     ensures unchanged { OnErr result (children.new.items ≡ children.old.items) }
 {
-    if children.len() < 4 {
+    if is_last {
         children.reserve_exact(1)?;
     }
     children.push(branch)?;
@@ -147,7 +147,9 @@ impl Tree {
             self.leads = true;
             return Ok(());
         }
-        self.push(Branch::Token(index))
+        // Mostly the last child, where it is the first that takes room.
+        let is_last = self.children.is_empty();
+        self.push(Branch::Token(index), is_last)
     }
 
     /// One child more: a node. On `Memory` the node is dropped.
@@ -155,7 +157,15 @@ impl Tree {
         ensures ok { OnOk result (self.new ≡ record self.old { under = put self.old.under (inner tree) }) }
         ensures unchanged { OnErr result (self.new ≡ self.old) }
     {
-        self.push(Branch::Inner(tree))
+        self.push(Branch::Inner(tree), false)
+    }
+
+    /// The same, where no child follows: the node takes no more room than it needs.
+    pub fn end_with(&mut self, tree: Tree) -> Result<(), Memory>
+        ensures ok { OnOk result (self.new ≡ record self.old { under = put self.old.under (inner tree) }) }
+        ensures unchanged { OnErr result (self.new ≡ self.old) }
+    {
+        self.push(Branch::Inner(tree), true)
     }
 
     /// The only child, where it is a node, and else the node itself.
@@ -171,14 +181,14 @@ impl Tree {
         }
     }
 
-    fn push(&mut self, branch: Branch) -> Result<(), Memory>
+    fn push(&mut self, branch: Branch, is_last: bool) -> Result<(), Memory>
         ensures ok { OnOk result (self.new ≡ record self.old { under = put self.old.under (part_of branch) }) }
         ensures unchanged { OnErr result (self.new ≡ self.old) }
     {
         if self.children.len() >= u32::MAX as usize - 1 {
             return Err(Memory);
         }
-        push(&mut self.children, branch)?;
+        push(&mut self.children, branch, is_last)?;
         Ok(())
     }
 }

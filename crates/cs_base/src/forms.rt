@@ -1,6 +1,6 @@
 // What a token keeps of its spelling and of its characters' origins. Most tokens have a short text whose
 // characters stand one behind the other in a file, and take no memory of their own.
-ghost use Rattle.std.specs.Prelude.{◌≡◌, ◌≤◌, ◌<◌, ◌+◌, ◌++◌, ◌^◌, [], ◌∷◌, length, IfOk};
+ghost use Rattle.std.specs.Prelude.{◌≡◌, ◌≤◌, ◌<◌, ◌+◌, ◌++◌, ◌^◌, [], ◌∷◌, length, IfOk, IfSome};
 ghost use Rattle.cs_base.specs.Form.{spelled, spans_in, IsForm};
 ghost use Rattle.cs_base.specs.Spans.{AreSpans, origin_by, origins_by, whole};
 
@@ -99,6 +99,16 @@ impl Form {
         match self {
             Form::Short(_, first) | Form::Long(_, first) => neighbour(*first, len, k),
             Form::Apart(_, spans) => origin_in(spans.as_slice(), len, k),
+        }
+    }
+
+    /// The first origin, where it is kept alone for all of them.
+    pub(crate) fn start(&self) -> Option<Pos>
+        ensures { IfSome result (λ first. spans_in self.now ≡ whole (length (spelled self.now)) first ∷ []) }
+    {
+        match self {
+            Form::Short(_, first) | Form::Long(_, first) => Some(*first),
+            Form::Apart(_, _) => None,
         }
     }
 

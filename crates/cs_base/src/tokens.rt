@@ -1,5 +1,5 @@
 // Preprocessing tokens as values, which share their text and origins where these are long (ISO/IEC 9899:1999, 6.4).
-ghost use Rattle.std.specs.Prelude.{◌≡◌, ◌≤◌, ◌<◌, ◌+◌, ◌++◌, ◌^◌, length, IfOk};
+ghost use Rattle.std.specs.Prelude.{◌≡◌, ◌≤◌, ◌<◌, ◌+◌, ◌++◌, ◌^◌, ℕ, Some, length, IfOk, IfSome};
 ghost use Rattle.cs_base.specs.Padding.{padded};
 ghost use Rattle.cs_base.specs.Spans.{AreSpans, origins_by};
 
@@ -155,6 +155,15 @@ impl Tok {
         ensures answer { result ≡ origin_at self.now k }
     {
         self.form.origin(k)
+    }
+
+    /// The first origin, where the token keeps it alone, since each of the others stands behind the one before it in
+    /// its file.
+    pub fn start(&self) -> Option<Pos>
+        ensures { IfSome result (λ first. (k : ℕ) → k < length self.now.text
+            → origin_at self.now k ≡ Some (record { file = first.file; at = first.at + k })) }
+    {
+        self.form.start()
     }
 
     /// Adds the spans of the characters, which stand behind `from` others: what the spans told up to `from` stays, also

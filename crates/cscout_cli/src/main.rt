@@ -2,25 +2,44 @@
 //!
 //! `main` hands the words behind the program's name and the real files and streams to `run` of `cscout_run`, which is
 //! the whole program, or what follows the word `--diff` to its `show`, and behind `--why` calls its `explain` after either. It goes to the folder of `-C`
-//! before, and ends with the number of the status. Start from
+//! before, and ends with the number of the status. Where standard error is a terminal, a line there says which file is
+//! being read, from two seconds on (`progress_line.rt`); it is wiped before anything is written. Start from
 //! `cscout_run`.
 #![tactic(auto)]
+
+mod progress_line;
+mod watched;
 
 use command_words::tell;
 use cs_base::{Files, Sink};
 use cscout_run::{HostFiles, HostSink, Status, explain, run, show};
+use progress_line::Progress;
 use std::process::ExitCode;
 use std::{env, io};
+use watched::{WatchedFiles, WatchedSink};
 
 fn main(rt: HostRuntime) -> ExitCode {
     ExitCode::from(run_over_host(&rt) as u8)
 }
 
-// Runs the program over the real files and streams. An argument that is no text makes a faulty command
-// line, which is told as one.
+// Runs the program over the real files and streams, beside which a terminal has the line of what is being read.
 fn run_over_host(rt: &HostRuntime) -> Status {
-    let mut out = HostSink::new(rt.stdout());
-    let mut err = HostSink::new(rt.stderr());
+    let progress = Progress::new(rt);
+    let status = run_beside(rt, &progress);
+    progress.wipe();
+    status
+}
+
+// Runs the program. An argument that is no text makes a faulty command line, which is told as one.
+fn run_beside(rt: &HostRuntime, progress: &Progress) -> Status {
+    let mut out = WatchedSink {
+        progress,
+        sink: HostSink::new(rt.stdout()),
+    };
+    let mut err = WatchedSink {
+        progress,
+        sink: HostSink::new(rt.stderr()),
+    };
     let words = match words_of(rt) {
         Ok(words) => words,
         Err(e) if e.kind() == io::ErrorKind::InvalidData => {
@@ -30,7 +49,10 @@ fn run_over_host(rt: &HostRuntime) -> Status {
         Err(_) => return no_memory(&mut err),
     };
     match HostFiles::new(rt) {
-        Ok(mut files) => run_there(rt, words.as_slice(), &mut files, &mut out, &mut err),
+        Ok(files) => {
+            let mut files = WatchedFiles { progress, files };
+            run_there(rt, words.as_slice(), &mut files, &mut out, &mut err)
+        }
         Err(_) => no_memory(&mut err),
     }
 }

@@ -1,5 +1,5 @@
 // Whether the origins of a token are whole added tokens, one after another.
-ghost use Rattle.std.specs.Prelude.{◌≡◌, ◌+◌, ◌^◌, ◌<◌, MatchBool, Some, length, slice_get};
+ghost use Rattle.std.specs.Prelude.{◌≡◌, ◌+◌, ◌^◌, ◌<◌, IsTrue, MatchBool, Some, length, slice_get};
 ghost use Rattle.eclass_map.specs.ClassTable.{AreWhole};
 ghost use Rattle.eclass_map.specs.Positions.{AreTokens};
 ghost use Rattle.eclass_map.specs.Settled.{Fits};
@@ -104,6 +104,23 @@ fn is_same(first: Pos, second: Pos) -> bool
     first.file == second.file && first.at == second.at
 }
 
+// The origins from number `at` on are the characters of the part, as the token tells of all its characters at once.
+fn runs_on(tok: &Tok, at: u32, part: Part) -> bool
+    requires within { at < length tok.now.origins }
+    ensures { IsTrue result → LiesAt tok.now.origins at part }
+{
+    match tok.start() {
+        Some(first) => {
+            let left = tok.text().len() as u32 - at;
+            first.file == part.start.file
+                && first.at <= part.start.at
+                && part.start.at - first.at == at
+                && part.len <= left
+        }
+        None => false,
+    }
+}
+
 // Whether the origins from number `at` on are the characters of the part.
 fn goes_on(tok: &Tok, at: u32, part: Part) -> bool
     requires within { at < length tok.now.origins }
@@ -111,6 +128,9 @@ fn goes_on(tok: &Tok, at: u32, part: Part) -> bool
     requires fits { part.start.at + part.len < 2 ^ 32 }
     ensures { MatchBool result (LiesAt tok.now.origins at part) (LiesAt tok.now.origins at part → ⊥) }
 {
+    if runs_on(tok, at, part) {
+        return true;
+    }
     for offset in 0..part.len {
         let pos = Pos {
             file: part.start.file,

@@ -27,8 +27,9 @@ use Rattle.source_files.specs.Limits.{Limits, the_limits}
 use Rattle.include_tree.specs.OpeningStep.{open_file}
 use Rattle.unit_steps.specs.State.{Context, context, State, Outcome}
 use Rattle.source_files.specs.Opening.{Reader}
-use Rattle.include_tree.specs.Unit.{first_state, outer_file, main_file, unit_outcome}
+use Rattle.include_tree.specs.Unit.{pseudo_path, first_state, outer_file, main_file, unit_outcome}
 use Rattle.include_tree.specs.Walk.{file_items}
+use Rattle.include_tree.proofs.DefinesLemmas.{with_defines_has}
 use Rattle.include_tree.proofs.OutcomeLemmas.{onward_done}
 use Rattle.include_tree.proofs.StayLemmas.{IsStable, Stays, open_file_stays}
 use Rattle.include_tree.proofs.StayingWalk.{files_stay}
@@ -46,7 +47,7 @@ use Rattle.unit_laws.specs.UnitNames.{HasNames, UnitIsMade}
 use Rattle.unit_laws.specs.UnitSpelling.{UnitIsSpelled}
 use Rattle.unit_laws.specs.UnitItems.{ReachedAreWhole}
 use Rattle.unit_laws.specs.UnitTokens.{NumbersAreWhole, UnitIsWhole}
-use Rattle.unit_laws.proofs.DoneLemmas.{UnitRules, IsAnswer}
+use Rattle.unit_laws.proofs.DoneLemmas.{UnitRules, IsAnswer, IsBrought}
 use Rattle.unit_laws.proofs.NameLemmas.{unit_names_are_made}
 use Rattle.unit_laws.proofs.NoteLemmas.{TextHas}
 use Rattle.unit_laws.proofs.ReachedLemmas.{reached_tokens_are_whole}
@@ -92,8 +93,10 @@ unit_grown limits reader source number unit before =
     let J : Table → Type 0 = IsGrown before.table in
     let ctx : Context = context source reader unit limits before.toks in
     let s : State = first_state limits number unit before.table in
-    let first = grown_push before.table (defines_path number) (Made (defines_of unit)) in
-    onward_done (Stays {A = List Token} J) (Stays {A = List Token} J) (outer_file ctx (defines_path number) s) _ (outer_grown before.table ctx (defines_path number) s first)
+    let first =
+    with_defines_has J number unit before.table (grown_refl before.table) (grown_push before.table (defines_path number) (Made (defines_of unit))) in
+    let path : List ℕ = pseudo_path number unit before.table in
+    onward_done (Stays {A = List Token} J) (Stays {A = List Token} J) (outer_file ctx path s) _ (outer_grown before.table ctx path s first)
     (λ toks t g. onward_done (Stays {A = List Token} J) (Stays {A = List Token} J) (main_file ctx unit.path t) _ (main_grown before.table ctx unit.path t g)
     (λ more u f. f))
 
@@ -245,6 +248,10 @@ answer_zero word b (suc k) p e = absurd (cc)
 answer_origin : (t : Token) → IsAnswer t → (k : ℕ) (p : Pos) → slice_get t.origins k ≡ Some (Some p) → p.file ≡ 0
 answer_origin t is k p at = answer_zero is.0 is.1 k p (ap (λ (x : Token). slice_get x.origins k) (sym is.2) ∙ at)
 
+brought_origin : (t : Token) → IsBrought t → (k : ℕ) (p : Pos) → slice_get t.origins k ≡ Some (Some p) → p.file ≡ 0
+brought_origin t (inl is) k p at = answer_origin t is k p at
+brought_origin t (inr is) k p at = digits_zero (8 * is.1) (length (decimal is.1)) k p (ap (λ (x : Token). slice_get x.origins k) (sym is.2) ∙ at)
+
 -- ---- what is true of the text of a unit
 
 pub brought_in : (a : AnalysisValue) (u : UnitAnalysis) → In u a.units → (t : Token) → In t (numbers_brought u.text) → In t (file_tokens a)
@@ -311,7 +318,7 @@ module _ (a : AnalysisValue) (u : UnitAnalysis) (i : In u a.units) (h : IsUnit a
   number_origin t j k p at =
       split_at _ t (flat_map number_of_event u.text.events) u.text.answers j.0 j.1
       (λ i. let e = flat_one number_of_event t u.text.events i in line_origin t (number_for_line e.0.kind e.0.def e.0.name t e.1) k p at)
-      (λ i. answer_origin t (toks_at IsAnswer u.text.answers (unit_traced).answered t i.0 i.1) k p at)
+      (λ i. brought_origin t (toks_at IsBrought u.text.answers (unit_traced).answered t i.0 i.1) k p at)
     where
       flat_one : {X Y : Type 0} (f : X → List Y) (y : Y) (xs : List X) → In y (flat_map f xs) → (x : X) × In y (f x)
       flat_one f y [] i = absurd (let e = i.1 in cc)

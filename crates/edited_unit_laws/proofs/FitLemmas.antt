@@ -12,13 +12,14 @@ use Rattle.cs_base.specs.declared.tokens.Kind.{Kind}
 use Rattle.cs_base.specs.declared.tokens.Kind.TheVariants.{Ident, Number, Char, Str, Punct, Other, Header}
 use Rattle.cs_base.specs.Token.{Token}
 use Rattle.line_shape.specs.Signs.{is_identifier, is_va_args}
+use Rattle.macro_body.specs.declared.notes.Work.{Work}
 use Rattle.macro_body.specs.Below.paste_origin.Strings.{stringize_of}
 use Rattle.macro_body.specs.declared.definitions.Definition.{Definition}
 use Rattle.macro_body.specs.Hides.{Hidden, unhidden, toks_of}
 use Rattle.macro_expand.specs.Laws.{Held, Passes, AllMadePass}
 use Rattle.macro_body.specs.Macro.{Table as Macros}
-use Rattle.macro_body.specs.Notes.{Note, Replaced, Linked, Stringized, Pasted, Expanded}
-use Rattle.macro_body.specs.Substitution.{line_number, path_text, path_string}
+use Rattle.macro_body.specs.Notes.{Note, Replaced, Linked, Stringized, Pasted, Counted, Expanded}
+use Rattle.macro_body.specs.Substitution.{number_token, path_text, path_string}
 use Rattle.macro_expand.specs.Expansion.{Setting, expansion}
 use Rattle.macro_expand.specs.Renaming.{Renaming, spelled, Occurring, occurs, AllOccur, KeepsBody}
 use Rattle.expansion_laws.proofs.OriginLemmas.{tokens_come_from_somewhere}
@@ -208,10 +209,10 @@ quoted-fits c names s is = (
 string-fits : (c : Change) → KeepsNames c → (toks : List Token) (s : Token) → IsStringized toks s → Fits c s
 string-fits c names toks s h = quoted-fits c names s (string-kind toks s h.made)
 
-pub line-fits : (c : Change) → KeepsNames c → (name : Token) → Fits c (line_number name)
-line-fits c names name =
-    still-fits c names (line_number name) Number refl refl (names.others Number (line_number name).origins (line_number name).text refl refl)
-    (names.numbers (8 * name.line) (length (decimal name.line)) (decimal name.line)).0
+pub number-fits : (c : Change) → KeepsNames c → (name : Token) (n : ℕ) → Fits c (number_token name n)
+number-fits c names name n =
+    still-fits c names (number_token name n) Number refl refl (names.others Number (number_token name n).origins (number_token name n).text refl refl)
+    (names.numbers (8 * n) (length (decimal n)) (decimal n)).0
 
 nones : (n : ℕ) → list_all is_none (replicate {A = Option Pos} n None) ≡ true
 nones zero = refl
@@ -229,6 +230,7 @@ made-pass : (c : Change) → KeepsNames c → (macros : Macros) (notes : List No
 made-pass c names macros [] did h = tt
 made-pass c names macros (Replaced name m before ∷ notes) did h = made-pass c names macros notes (λ k note at. did (suc k) note at) h.1
 made-pass c names macros (Linked x y ∷ notes) did h = made-pass c names macros notes (λ k note at. did (suc k) note at) h.1
+made-pass c names macros (Counted z ∷ notes) did h = made-pass c names macros notes (λ k note at. did (suc k) note at) h.1
 made-pass c names macros (Stringized toks s ∷ notes) did h =
     (fits-true c s (string-fits c names toks s (did 0 (Stringized toks s) refl)), made-pass c names macros notes (λ k note at. did (suc k) note at) h.1)
 made-pass c names macros (Pasted x y z ∷ notes) did h =
@@ -247,14 +249,14 @@ held-fits c macros [] h = tt
 held-fits c macros (t ∷ ts) h = (true-fits c t.tok h.0, held-fits c macros ts h.2)
 
 -- the tokens that tokens which fit expand to fit
-pub expanded-fits : (c : Change) → KeepsNames c → (macros : Macros) (s : State) (path : List ℕ) (run : List Token) (work : ℕ) (e : Expanded) → KeepsState c macros s → Each (Fits c) run
+pub expanded-fits : (c : Change) → KeepsNames c → (macros : Macros) (s : State) (path : List ℕ) (run : List Token) (work : Work) (e : Expanded) → KeepsState c macros s → Each (Fits c) run
     → expansion s.macros path run work ≡ Ok e → Each (GoesWell c) e.notes → Each (Fits c) (toks_of e.toks)
 unfolding expansion
 expanded-fits c names macros s path run work e kept h is told =
     let set : Setting = record { table = s.macros; path = path } in
     let passes : Passes (fits c) set = record {
       bodies = λ name m at. body-fits c m m.body (kept.macros.body name m at) (kept.bodies name m at);
-      lines = λ name. fits-true c (line_number name) (line-fits c names name);
+      numbers = λ name n. fits-true c (number_token name n) (number-fits c names name n);
       paths = λ name. fits-true c (path_string path name) (path-fits c names path name);
     } in
     held-fits c s.macros e.toks (tokens_come_from_somewhere (fits c) set 0 0 (unhidden run) work e passes (run-held c s.macros run h) is

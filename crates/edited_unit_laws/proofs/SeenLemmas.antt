@@ -10,7 +10,7 @@ use Rattle.unit_steps.specs.declared.events.EventKind.TheVariants as kind
 use Rattle.unit_steps.specs.declared.events.Reached.{Reached}
 use Rattle.source_files.specs.Faults.{Fault}
 use Rattle.source_files.specs.Files.{carried}
-use Rattle.unit_steps.specs.Notes.{Note, Reaches, Happened, Defined, Undefined, Tested, Left, Linked, Answered, Named, Entered, Exited, ReadOnce, links_then, pasted_then, stringized_then, events_then, links_of, pasted_of, stringized_of, header_of, answers_of, events_of, reached_of, named_event, before_in}
+use Rattle.unit_steps.specs.Notes.{Note, Reaches, Happened, Defined, Undefined, Tested, Left, Linked, Answered, Named, Entered, Exited, ReadOnce, links_then, pasted_then, stringized_then, events_then, links_of, pasted_of, stringized_of, header_of, answers_of, answers_then, events_of, reached_of, named_event, before_in}
 use Rattle.unit_steps.specs.Texts.{UnitTextValue, reached_in, unit_text}
 use Rattle.include_tree.specs.Preprocessed.{Preprocessed, preprocessed_by, preprocessed}
 use Rattle.edited_unit_laws.specs.Lines.{Each}
@@ -27,18 +27,28 @@ link-renamed r (expansion.Replaced name m more) = refl
 link-renamed r (expansion.Linked x y) = refl
 link-renamed r (expansion.Stringized toks s) = refl
 link-renamed r (expansion.Pasted x y z) = refl
+link-renamed r (expansion.Counted z) = refl
 
 paste-renamed : (r : Renaming) (n : expansion.Note) → pasted_then (renamed_note r n) ≡ map (renamed r) (pasted_then n)
 paste-renamed r (expansion.Replaced name m more) = refl
 paste-renamed r (expansion.Linked x y) = refl
 paste-renamed r (expansion.Stringized toks s) = refl
 paste-renamed r (expansion.Pasted x y z) = refl
+paste-renamed r (expansion.Counted z) = refl
 
 string-renamed : (r : Renaming) (n : expansion.Note) → stringized_then (renamed_note r n) ≡ map (renamed r) (stringized_then n)
 string-renamed r (expansion.Replaced name m more) = refl
 string-renamed r (expansion.Linked x y) = refl
 string-renamed r (expansion.Stringized toks s) = refl
 string-renamed r (expansion.Pasted x y z) = refl
+string-renamed r (expansion.Counted z) = refl
+
+answer-renamed : (r : Renaming) (n : expansion.Note) → answers_then (renamed_note r n) ≡ map (renamed r) (answers_then n)
+answer-renamed r (expansion.Replaced name m more) = refl
+answer-renamed r (expansion.Linked x y) = refl
+answer-renamed r (expansion.Stringized toks s) = refl
+answer-renamed r (expansion.Pasted x y z) = refl
+answer-renamed r (expansion.Counted z) = refl
 
 links-renamed : (r : Renaming) (n : Note) → links_of (renamed_happening r n) ≡ map (renamed_link r) (links_of n)
 links-renamed r (Reaches file item evaluated before) = refl
@@ -98,7 +108,7 @@ header-renamed r (ReadOnce passed at file before) = refl
 
 answers-renamed : (r : Renaming) (n : Note) → answers_of (renamed_happening r n) ≡ map (renamed r) (answers_of n)
 answers-renamed r (Reaches file item evaluated before) = refl
-answers-renamed r (Happened run before n) = refl
+answers-renamed r (Happened run before n) = answer-renamed r n
 answers-renamed r (Defined m before) = refl
 answers-renamed r (Undefined name before) = refl
 answers-renamed r (Tested name before) = refl
@@ -117,6 +127,7 @@ event-renamed c run before (expansion.Replaced name m more) h =
 event-renamed c run before (expansion.Linked x y) h = refl
 event-renamed c run before (expansion.Stringized toks s) h = refl
 event-renamed c run before (expansion.Pasted x y z) h = refl
+event-renamed c run before (expansion.Counted z) h = refl
 
 events-renamed : (c : Change) (n : Note) → MovesMacro c n → events_of (renamed_happening c.renaming n) ≡ map (renamed_event c.renaming) (events_of n)
 events-renamed c (Reaches file item evaluated before) h = refl

@@ -3,7 +3,7 @@ use Rattle.std.proofs.Common.{◌≡◌, ℕ, suc, ◌+◌, ◌≤◌, Bool, tru
 use Rattle.std.specs.Option.{option_map}
 use Rattle.std.specs.Str.{bytes_eq}
 use Rattle.std.proofs.lemmas.Bool.{cases_Bool}
-use Rattle.source_files.specs.Files.{Source, Found, Lines, Absent, Unopened, Opened, Made, Entry, entry, Table, number_of, found_at, found_in, numbered, asked, opened, opened_bytes, one_more, more_bytes, files_opened, bytes_opened}
+use Rattle.source_files.specs.Files.{Source, Found, Lines, Absent, Unopened, Opened, Made, Entry, entry, Table, is_made, made_path, number_of, found_at, found_in, numbered, asked, opened, opened_bytes, one_more, more_bytes, files_opened, bytes_opened}
 use Rattle.source_files.specs.Tables.{Becomes, IsGrown, IsFound, AreFound}
 use Rattle.source_files.proofs.KeptLemmas.{behind_other as number-other}
 use Rattle.analysis.specs.Changed.{Editing, edited_found, edited_from, edited_table}
@@ -42,6 +42,21 @@ push-edited edit n path f [] =
 push-edited edit n path f (e ∷ t) =
     let there : n + length (e ∷ t) ≡ suc n + length t = omega arith in
     rw there (ap (λ (l : Table). entry e.path (edited_found (edit n) e.found) ∷ l) (push-edited edit (suc n) path f t))
+
+-- ---- pseudo files
+
+is_made-edited : (edit : List ℕ → List ℕ) (text : List ℕ) (f : Found) → is_made text (edited_found edit f) ≡ is_made text f
+is_made-edited edit text Lines = refl
+is_made-edited edit text Absent = refl
+is_made-edited edit text (Unopened bytes) = refl
+is_made-edited edit text (Opened bytes) = refl
+is_made-edited edit text (Made bytes) = refl
+
+-- they stay, so the first with a text does
+pub made-edited : (edit : Editing) (n : ℕ) (text : List ℕ) (t : Table) → made_path text (edited_from edit n t) ≡ made_path text t
+unfolding made_path
+made-edited edit n text [] = refl
+made-edited edit n text (e ∷ t) = rw (is_made-edited (edit n) text e.found) (rw (made-edited edit (suc n) text t) refl)
 
 -- ---- growing
 

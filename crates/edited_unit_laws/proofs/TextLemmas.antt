@@ -3,6 +3,7 @@ use Rattle.std.proofs.Common.{◌≡◌, ℕ, ◌+◌, ◌-◌, nat_lt, Bool, tr
 use Rattle.std.proofs.lemmas.List.{length-map}
 use Rattle.cs_base.specs.Token.{Token}
 use Rattle.lexer.specs.FileText.{TextValue}
+use Rattle.macro_body.specs.declared.notes.Work.{Work}
 use Rattle.macro_body.specs.Hides.{toks_of}
 use Rattle.macro_body.specs.Macro.{Table as Macros}
 use Rattle.macro_body.specs.Notes as expansion
@@ -53,7 +54,7 @@ expanded-grows run file toks s = by (expansion s.macros file.path toks s.work)
 module _ (c : Change) (names : KeepsNames c) where
   -- ---- expansions
 
-  with_work : (macros : Macros) (s : State) (work : ℕ) → KeepsState c macros s → KeepsState c macros (record s { work = work })
+  with_work : (macros : Macros) (s : State) (work : Work) → KeepsState c macros s → KeepsState c macros (record s { work = work })
   with_work macros s work kept = record { macros = kept.macros; bodies = kept.bodies; names = kept.names }
 
   expanded-by : (run : Bool) (file : SourceFile) (text : TextValue) (toks : List Token) (macros : Macros) (s : State) (r : Result expansion.Expanded expansion.Fault)

@@ -17,7 +17,7 @@ use Rattle.lexer.specs.Places.{pos, origins_from}
 use Rattle.lexer.specs.Tokens.{tokens_of, firsts_of}
 use Rattle.lexer.proofs.OriginLemmas.{length-origins}
 use Rattle.macro_body.specs.Below.paste_origin.Strings.{string_text}
-use Rattle.macro_body.specs.Substitution.{put_in, line_number, digit_origins, path_text}
+use Rattle.macro_body.specs.Substitution.{put_in, number_token, line_number, digit_origins, path_text}
 use Rattle.macro_body.proofs.PredefinedLemmas.{length-digit_origins as digits_length}
 use Rattle.unit_steps.specs.Conditions.{answer_for}
 use Rattle.source_files.specs.Files.{Table, SourceFile, source_file}
@@ -38,7 +38,7 @@ use Rattle.unit_laws.specs.UnitLinks.{IsIn}
 use Rattle.unit_laws.specs.UnitTokens.{BringsLine}
 use Rattle.unit_laws.proofs.PartLemmas.{from_files}
 use Rattle.unit_laws.proofs.SpellingLemmas.{files_are_spelled}
-use Rattle.unit_laws.proofs.TextLemmas.{line_event, answer_among}
+use Rattle.unit_laws.proofs.TextLemmas.{line_event, number_among, answer_among}
 use Rattle.analysis.specs.Below.eclass_map.Positions.{along}
 use Rattle.analysis.specs.Analysis.{AnalysisValue}
 use Rattle.analysis.specs.FileTokens.{file_tokens, numbers_brought, number_of_event, number_for, span_of}
@@ -228,6 +228,10 @@ module _ (a : AnalysisValue) (text : UnitTextValue) (notes : List Note) (toks : 
           each = digits_length (8 * name.line) (length (decimal name.line));
           chained = λ words. digits_begin a (line_number name) (8 * name.line) (length (decimal name.line)) (line_in e.0 name e.1.0 e.1.1) refl;
         };
+    numbers = λ name n run before here low told. record {
+      each = digits_length (8 * n) (length (decimal n));
+      chained = λ words. digits_begin a (number_token name n) (8 * n) (length (decimal n)) (answer_in (number_token name n) (number_among text notes toks (number_token name n) run before is_text told)) refl;
+    };
     answers = λ word b here told. answer_traced word b (answer_in (answer_for word b) (answer_among text notes toks (answer_for word b) is_text told));
     paths = λ path name here. record {
       each = length-replicate (length (path_text path)) None;

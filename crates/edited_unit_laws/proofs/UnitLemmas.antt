@@ -9,23 +9,24 @@ use Rattle.cs_base.specs.declared.positions.Pos.{Pos}
 use Rattle.cs_base.specs.declared.tokens.Kind.TheVariants.{Other}
 use Rattle.cs_base.specs.Padding.{padded}
 use Rattle.cs_base.specs.Token.{Token, token}
-use Rattle.cs_base.specs.Units.{UnitValue, defines_of}
+use Rattle.cs_base.specs.Units.{UnitValue, is_gnu, defines_of}
 use Rattle.lexer.specs.FileText.{file_text}
 use Rattle.macro_body.specs.declared.definitions.Form.{Form}
 use Rattle.macro_body.specs.declared.definitions.Form.TheVariants as form
 use Rattle.macro_body.specs.declared.definitions.Definition.{Definition}
-use Rattle.macro_body.specs.Defining.{first_definition, line_macro, file_macro, first_macros}
+use Rattle.macro_body.specs.Defining.{first_definition, line_macro, file_macro, counter_macro, standard_macros, first_macros}
 use Rattle.macro_body.specs.Macro.{Table as Macros}
 use Rattle.macro_expand.specs.Renaming.{renamed_macro, KeepsBody, Keeps}
 use Rattle.source_files.specs.Faults.{first_place}
-use Rattle.source_files.specs.Files.{Source, Made, entry, Table, SourceFile, Carried, defines_path, asked}
+use Rattle.source_files.specs.Files.{Source, Made, entry, Table, SourceFile, Carried, defines_path, made_path, asked}
 use Rattle.source_files.specs.Tables.{IsGrown}
 use Rattle.source_files.specs.Limits.{the_limits}
 use Rattle.include_tree.specs.OpeningStep.{open_file}
 use Rattle.include_tree.specs.GivenFiles.{unit_context}
 use Rattle.unit_steps.specs.State.{Context, State, Did, did, Outcome, only, onward}
-use Rattle.include_tree.specs.Unit.{first_state, outer_file, main_file, both_files, unit_outcome}
+use Rattle.include_tree.specs.Unit.{path_or_own, pseudo_path, table_or_more, with_defines, first_state, outer_file, main_file, both_files, unit_outcome}
 use Rattle.include_tree.specs.Walk.{file_items}
+use Rattle.include_tree.proofs.DefinesLemmas.{with_defines_has}
 use Rattle.source_files.proofs.TableLemmas.{grown_refl, grown_trans, widens_asked}
 use Rattle.edited_unit_laws.specs.Lines.{Each, KeepsToken}
 use Rattle.edited_unit_laws.specs.Keeping.{Change, KeepsName, KeepsNames, KeepsFiles}
@@ -34,7 +35,7 @@ use Rattle.edited_unit_laws.specs.Steps.{KeepsState, moved, GoesAlike, Follows, 
 use Rattle.edited_unit_laws.specs.Units.{UnitsAreRenamed}
 use Rattle.edited_unit_laws.proofs.FollowLemmas.{later-grows, onward-grows, alike-onward, alike-reach}
 use Rattle.edited_unit_laws.proofs.OpenLemmas.{open-alike, open-grows, alike-table}
-use Rattle.edited_unit_laws.proofs.TableLemmas.{push-edited, asked-edited, grown-push}
+use Rattle.edited_unit_laws.proofs.TableLemmas.{push-edited, made-edited, asked-edited, grown-push}
 use Rattle.edited_unit_laws.proofs.WalkLemmas.{both-alike, files-alike, files-grow}
 use Rattle.analysis.specs.Changed.{edited_table}
 
@@ -70,43 +71,68 @@ first-by c names name m false true fa lb e =
     (record { keeps = subst (λ (n : List ℕ). KeepsName c n) (sym ((bytes_eq-Decides name (codes "__LINE__")).0 lb)) names.line; still = macro-still c names form.Line (codes "__LINE__") refl; empty = refl })
 first-by c names name m false false fa lb e = absurd (none-some m e)
 
-first-is : (c : Change) → KeepsNames c → (name : List ℕ) (m : Definition) → first_macros name ≡ Some m → FirstIs c name m
-first-is c names name m e = first-by c names name m (bytes_eq name (codes "__FILE__")) (bytes_eq name (codes "__LINE__")) refl refl e
+counter-by : (c : Change) → KeepsNames c → (name : List ℕ) (m : Definition) (b : Bool) → bytes_eq name (codes "__COUNTER__") ≡ b
+    → cond b (Some counter_macro) (standard_macros name) ≡ Some m → FirstIs c name m
+counter-by c names name m true cb e =
+    subst (λ (d : Definition). FirstIs c name d) (same_Some counter_macro m e)
+    (record { keeps = subst (λ (n : List ℕ). KeepsName c n) (sym ((bytes_eq-Decides name (codes "__COUNTER__")).0 cb)) names.counter; still = macro-still c names form.Counter (codes "__COUNTER__") refl; empty = refl })
+counter-by c names name m false cb e = first-by c names name m (bytes_eq name (codes "__FILE__")) (bytes_eq name (codes "__LINE__")) refl refl e
+
+first-is : (c : Change) → KeepsNames c → (gnu : Bool) (name : List ℕ) (m : Definition) → first_macros gnu name ≡ Some m → FirstIs c name m
+first-is c names false name m e = first-by c names name m (bytes_eq name (codes "__FILE__")) (bytes_eq name (codes "__LINE__")) refl refl e
+first-is c names true name m e = counter-by c names name m (bytes_eq name (codes "__COUNTER__")) refl e
 
 no-body : (c : Change) (m : Definition) (body : List Token) → body ≡ [] → KeepsBody c.occurring c.renaming m body × Each (KeepsToken c.renaming) body
 no-body c m [] e = (tt, tt)
 no-body c m (t ∷ ts) e = absurd (cc)
 
-first-keeps : (c : Change) → KeepsNames c → Keeps c.occurring c.renaming first_macros first_macros
-first-keeps c names = record {
+first-keeps : (c : Change) → KeepsNames c → (gnu : Bool) → Keeps c.occurring c.renaming (first_macros gnu) (first_macros gnu)
+first-keeps c names gnu = record {
   stands = λ name m e.
-      let f = first-is c names name m e in
-      ap first_macros f.keeps.stays ∙ e ∙ ap (λ (d : Definition). Some d) (sym f.still);
-  no_other = λ name m e. let f = first-is c names name m e in (name, m, e, sym f.keeps.stays);
+      let f = first-is c names gnu name m e in
+      ap (first_macros gnu) f.keeps.stays ∙ e ∙ ap (λ (d : Definition). Some d) (sym f.still);
+  no_other = λ name m e. let f = first-is c names gnu name m e in (name, m, e, sym f.keeps.stays);
   apart = λ x y m d ex ey e.
-      let f = first-is c names x m ex in
-      let g = first-is c names y d ey in
+      let f = first-is c names gnu x m ex in
+      let g = first-is c names gnu y d ey in
       sym f.keeps.stays ∙ e ∙ g.keeps.stays;
   spelled_like = λ t name m here named e k.
-      let f = first-is c names name m e in
+      let f = first-is c names gnu name m e in
       f.keeps.alone t here named (k ∙ f.keeps.stays);
-  body = λ name m e. let f = first-is c names name m e in (no-body c m m.body f.empty).0;
+  body = λ name m e. let f = first-is c names gnu name m e in (no-body c m m.body f.empty).0;
   signs = names.signs;
   others = names.others;
   untraced = names.untraced;
   numbers = names.numbers;
 }
 
-first-kept : (c : Change) → KeepsNames c → (number : ℕ) (unit : UnitValue) (t : Table) → KeepsState c first_macros (first_state the_limits number unit t)
+-- the macros with which a unit begins
+abbrev first_of : UnitValue → Macros
+first_of unit = first_macros (is_gnu unit.standard)
+
+first-kept : (c : Change) → KeepsNames c → (number : ℕ) (unit : UnitValue) (t : Table) → KeepsState c (first_of unit) (first_state the_limits number unit t)
 first-kept c names number unit t = record {
-  macros = first-keeps c names;
-  bodies = λ name m e. let f = first-is c names name m e in (no-body c m m.body f.empty).1;
+  macros = first-keeps c names (is_gnu unit.standard);
+  bodies = λ name m e. let f = first-is c names (is_gnu unit.standard) name m e in (no-body c m m.body f.empty).1;
   names = tt;
 }
 
-first-moved : (c : Change) (number : ℕ) (unit : UnitValue) (t : Table) → first_state the_limits number unit (edited_table c.editing t) ≡ moved c first_macros (first_state the_limits number unit t)
+more-edited : (c : Change) (number : ℕ) (unit : UnitValue) (t : Table) (found : Option (List ℕ))
+    → table_or_more found number unit (edited_table c.editing t) ≡ edited_table c.editing (table_or_more found number unit t)
+more-edited c number unit t None = sym (push-edited c.editing 0 (defines_path number) (Made (defines_of unit)) t)
+more-edited c number unit t (Some path) = refl
+
+defines-edited : (c : Change) (number : ℕ) (unit : UnitValue) (t : Table) → with_defines number unit (edited_table c.editing t) ≡ edited_table c.editing (with_defines number unit t)
+defines-edited c number unit t =
+    ap (λ (found : Option (List ℕ)). table_or_more found number unit (edited_table c.editing t)) (made-edited c.editing 0 (defines_of unit) t)
+    ∙ more-edited c number unit t (made_path (defines_of unit) t)
+
+first-moved : (c : Change) (number : ℕ) (unit : UnitValue) (t : Table) → first_state the_limits number unit (edited_table c.editing t) ≡ moved c (first_of unit) (first_state the_limits number unit t)
 first-moved c number unit t =
-    ap (λ (x : Table). record (moved c first_macros (first_state the_limits number unit t)) { table = x }) (sym (push-edited c.editing 0 (defines_path number) (Made (defines_of unit)) t))
+    ap (λ (x : Table). record (moved c (first_of unit) (first_state the_limits number unit t)) { table = x }) (defines-edited c number unit t)
+
+pseudo-edited : (c : Change) (number : ℕ) (unit : UnitValue) (t : Table) → pseudo_path number unit (edited_table c.editing t) ≡ pseudo_path number unit t
+pseudo-edited c number unit t = ap (λ (found : Option (List ℕ)). path_or_own found number) (made-edited c.editing 0 (defines_of unit) t)
 
 -- ---- the files of a unit
 
@@ -144,8 +170,9 @@ pub unit-grows : (old : Source) (number : ℕ) (unit : UnitValue) (before : Carr
 unit-grows old number unit before d is =
     let s : State = first_state the_limits number unit before.table in
     let grown : IsGrown s.table d.state.table =
-    subst (λ (m : Outcome (List Token)). Grows s m) is (both-grow old unit before.toks (defines_path number) unit.path s) in
-    grown_trans before.table s.table d.state.table (grown-push before.table (entry (defines_path number) (Made (defines_of unit)))) grown
+    subst (λ (m : Outcome (List Token)). Grows s m) is (both-grow old unit before.toks (pseudo_path number unit before.table) unit.path s) in
+    grown_trans before.table s.table d.state.table
+    (with_defines_has (IsGrown before.table) number unit before.table (grown_refl before.table) (grown-push before.table (entry (defines_path number) (Made (defines_of unit))))) grown
 
 module _ (c : Change) (names : KeepsNames c) (source : Source) (files : KeepsFiles c source) (old : Source) (unit : UnitValue) (earlier : ℕ) where
   abbrev ctx : Context
@@ -184,11 +211,13 @@ pub units_are_renamed : UnitsAreRenamed
 units_are_renamed = λ c old new number unit before d is reach keeps.
     let s : State = first_state the_limits number unit before.table in
     let cx2 : Context = unit_context new unit before.toks in
-    let all = files_of-alike c keeps.names new keeps.files old unit before.toks (defines_path number) unit.path first_macros s in
-    let done : GoesAlike c (IsPutOutRenamed c) first_macros s (Ok d) (both_files cx2 (defines_path number) unit.path (moved c first_macros s)) =
-    subst (λ (m : Outcome (List Token)). GoesAlike c (IsPutOutRenamed c) first_macros s m (both_files cx2 (defines_path number) unit.path (moved c first_macros s))) is all in
-    let f : Follows c (IsPutOutRenamed c) d (both_files cx2 (defines_path number) unit.path (moved c first_macros s)) = done reach (first-kept c keeps.names number unit before.table) keeps.notes in (
+    let path : List ℕ = pseudo_path number unit before.table in
+    let all = files_of-alike c keeps.names new keeps.files old unit before.toks path unit.path (first_of unit) s in
+    let done : GoesAlike c (IsPutOutRenamed c) (first_of unit) s (Ok d) (both_files cx2 path unit.path (moved c (first_of unit) s)) =
+    subst (λ (m : Outcome (List Token)). GoesAlike c (IsPutOutRenamed c) (first_of unit) s m (both_files cx2 path unit.path (moved c (first_of unit) s))) is all in
+    let f : Follows c (IsPutOutRenamed c) d (both_files cx2 path unit.path (moved c (first_of unit) s)) = done reach (first-kept c keeps.names number unit before.table) keeps.notes in (
       f.macros,
-      ap (both_files cx2 (defines_path number) unit.path) (first-moved c number unit before.table) ∙ f.is
+      ap (λ (p : List ℕ). both_files cx2 p unit.path (first_state the_limits number unit (edited_table c.editing before.table))) (pseudo-edited c number unit before.table)
+          ∙ ap (both_files cx2 path unit.path) (first-moved c number unit before.table) ∙ f.is
           ∙ ap (λ (ts : List Token). Ok (did ts (map (renamed_happening c.renaming) d.notes) (moved c f.macros d.state))) f.goes_with,
     )

@@ -40,13 +40,14 @@ pub record KeepsName (c : Change) (text : List ℕ) : Type 0 where
   pub alone : (t : Token) → occurs c.occurring t ≡ true → is_name t ≡ true → spelled c.renaming t ≡ text → t.text ≡ text
 
 -- What is kept of the tokens that occur: names of different spellings stay different, so do those of the first macros
--- (6.10.8), and punctuators stay. What comes from no file stays, and where it stands. All that is neither an
+-- (6.10.8, and `__COUNTER__` of GNU C), and punctuators stay. What comes from no file stays, and where it stands. All that is neither an
 -- identifier nor a punctuator is said to occur.
 pub record KeepsNames (c : Change) : Type 0 where
   pub apart : (t u : Token) → occurs c.occurring t ≡ true → occurs c.occurring u ≡ true → is_name t ≡ true → is_name u ≡ true
       → spelled c.renaming t ≡ spelled c.renaming u → t.text ≡ u.text
   pub line : KeepsName c (codes "__LINE__")
   pub file : KeepsName c (codes "__FILE__")
+  pub counter : KeepsName c (codes "__COUNTER__")
   pub signs : (t : Token) → occurs c.occurring t ≡ true → is_punctuator t.kind ≡ true → spelled c.renaming t ≡ t.text
   pub others : (kind : Kind) (origins : List (Option Pos)) (text : List ℕ) → is_identifier kind ≡ false → is_punctuator kind ≡ false → c.occurring kind origins text ≡ true
   pub untraced : (origins : List (Option Pos)) (text : List ℕ) → list_all is_none origins ≡ true

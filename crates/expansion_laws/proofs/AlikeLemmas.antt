@@ -8,6 +8,7 @@ use Rattle.std.proofs.lemmas.List.Folds.{list_all-append}
 use Rattle.std.proofs.lemmas.Option.{none-some, same_Some}
 use Rattle.cs_base.specs.Token.{Token}
 use Rattle.line_shape.specs.Signs.{is_open, is_close, is_comma}
+use Rattle.macro_body.specs.declared.notes.Work.{Work}
 use Rattle.macro_body.specs.declared.definitions.Form.{Form}
 use Rattle.macro_body.specs.declared.definitions.Form.TheVariants as form
 use Rattle.macro_body.specs.declared.definitions.Definition.{Definition}
@@ -47,7 +48,7 @@ module _ (far : Bool) where
   abbrev plain_note : Note → Note
   plain_note n = alike.plain_note far n
 
-  abbrev AreAlike : Bool → ℕ → ℕ → Expanded → Expanded → Type 0
+  abbrev AreAlike : Bool → Work → Work → Expanded → Expanded → Type 0
   AreAlike loose work work2 e e2 = alike.AreAlike far loose work work2 e e2
 
   abbrev unlined_lists : List (List Hidden) → List (List Hidden)
@@ -160,15 +161,16 @@ module _ (far : Bool) where
   -- ---- what is put in
 
   unfoldable AlikeBelow : Setting → ℕ → Type 0
-  AlikeBelow set b = (loose : Bool) (depth before before2 : ℕ) (ts ts2 : List Hidden) (work work2 : ℕ) (e : Expanded) → work + length ts < b
-      → whole set depth before ts work ≡ Ok e → canon loose ts2 ≡ canon loose ts → work ≤ e.left + work2 → list_all (brings_no_line set.table) e.notes ≡ true
+  AlikeBelow set b = (loose : Bool) (depth before before2 : ℕ) (ts ts2 : List Hidden) (work work2 : Work) (e : Expanded) → work.left + length ts < b
+      → whole set depth before ts work ≡ Ok e → canon loose ts2 ≡ canon loose ts → work.left ≤ e.left.left + work2.left → list_all (brings_no_line set.table) e.notes ≡ true
       → (e2 : Expanded) × (whole set depth before2 ts2 work2 ≡ Ok e2) × AreAlike loose work work2 e e2
 
   -- the same of expanded arguments
-  record FullAlike (work work2 : ℕ) (f f2 : Full) : Type 0 where
+  record FullAlike (work work2 : Work) (f f2 : Full) : Type 0 where
     lists : map plain f2.lists ≡ map plain f.lists
     notes : map plain_note f2.notes ≡ map plain_note f.notes
-    cost : f2.left + work ≡ f.left + work2
+    cost : f2.left.left + work.left ≡ f.left.left + work2.left
+    counters : (f.left.counter ≡ work.counter) × (f2.left.counter ≡ work2.counter)
 
   notes_parts : (p : Note → Bool) (xs ys : List Note) → list_all p (xs ++ ys) ≡ true → (list_all p xs ≡ true) × (list_all p ys ≡ true)
   notes_parts p xs ys h = and_parts (list_all p xs) (list_all p ys) (sym (list_all-append p xs ys) ∙ h)
@@ -177,59 +179,59 @@ module _ (far : Bool) where
   notes_join xs ys us vs h k =
       map-append plain_note xs ys ∙ ap (λ (l : List Note). l ++ map plain_note ys) h ∙ ap (λ (l : List Note). map plain_note us ++ l) k ∙ sym (map-append plain_note us vs)
 
-  step_falls : (set : Setting) (depth before : ℕ) (name : Token) (a : List Hidden) (work : ℕ) (rest : ℕ → Result Full Fault)
-      → ((w : ℕ) (v : Full) → rest w ≡ Ok v → v.left ≤ w) → (wanted : Bool) (f : Full) → full_step wanted (whole set) depth before name a work rest ≡ Ok f → f.left ≤ work
+  step_falls : (set : Setting) (depth before : ℕ) (name : Token) (a : List Hidden) (work : Work) (rest : Work → Result Full Fault)
+      → ((w : Work) (v : Full) → rest w ≡ Ok v → v.left.left ≤ w.left) → (wanted : Bool) (f : Full) → full_step wanted (whole set) depth before name a work rest ≡ Ok f → f.left.left ≤ work.left
   step_falls set depth before name a work rest later false f e =
       let j = onward_ok {A = Full} (rest work) (λ v. Ok (without_full v)) f e in
-      let same : j.0.left ≡ f.left = ap (λ (v : Full). v.left) (ok_same (without_full j.0) f j.2) in
+      let same : j.0.left.left ≡ f.left.left = ap (λ (v : Full). v.left.left) (ok_same (without_full j.0) f j.2) in
       let k = later work j.0 j.1 in
       omega (arith, same)
   step_falls set depth before name a work rest later true f e =
       let i = onward_ok {A = Expanded} (alone (whole set) depth before name a work) (λ v. onward (rest v.left) (λ w. Ok (with_full v w))) f e in
       let c = cond_ok_yes (nat_lt depth most_depth) (TooDeep name.at) (whole set (suc depth) before a work) i.0 i.1 in
       let j = onward_ok {A = Full} (rest i.0.left) (λ w. Ok (with_full i.0 w)) f i.2 in
-      let same : j.0.left ≡ f.left = ap (λ (v : Full). v.left) (ok_same (with_full i.0 j.0) f j.2) in
+      let same : j.0.left.left ≡ f.left.left = ap (λ (v : Full). v.left.left) (ok_same (with_full i.0 j.0) f j.2) in
       let k = later i.0.left j.0 j.1 in
       let k2 = whole_falls set (suc depth) before a work i.0 c.1 in
       omega (arith, same)
 
-  full_falls : (set : Setting) (depth before : ℕ) (name : Token) (chains : List (List Part)) (i : ℕ) (raw : List (List Hidden)) (work : ℕ) (f : Full)
-      → full_from (whole set) depth before name chains i raw work ≡ Ok f → f.left ≤ work
+  full_falls : (set : Setting) (depth before : ℕ) (name : Token) (chains : List (List Part)) (i : ℕ) (raw : List (List Hidden)) (work : Work) (f : Full)
+      → full_from (whole set) depth before name chains i raw work ≡ Ok f → f.left.left ≤ work.left
   full_falls set depth before name chains i [] work f is =
-      let same : work ≡ f.left = ap (λ (v : Full). v.left) (ok_same (full [] [] work) f is) in omega (arith, same)
+      let same : work.left ≡ f.left.left = ap (λ (v : Full). v.left.left) (ok_same (full [] [] work) f is) in omega (arith, same)
   full_falls set depth before name chains i (a ∷ raw) work f is =
       step_falls set depth before name a work (full_from (whole set) depth before name chains (suc i) raw) (full_falls set depth before name chains (suc i) raw) (occurs_alone i chains) f is
 
   -- what is the same of other arguments that are expanded from so much work on
-  abbrev FullToo : ℕ → ℕ → Full → Result Full Fault → Type 0
+  abbrev FullToo : Work → Work → Full → Result Full Fault → Type 0
   FullToo work work2 f r2 = (f2 : Full) × (r2 ≡ Ok f2) × FullAlike work work2 f f2
 
   -- so it is with the arguments behind one
-  abbrev FullLater : Setting → ℕ → (ℕ → Result Full Fault) → (ℕ → Result Full Fault) → Type 0
-  FullLater set work rest rest2 = (w w2 : ℕ) (f : Full) → w ≤ work → rest w ≡ Ok f → w ≤ f.left + w2 → list_all (brings_no_line set.table) f.notes ≡ true → FullToo w w2 f (rest2 w2)
+  abbrev FullLater : Setting → Work → (Work → Result Full Fault) → (Work → Result Full Fault) → Type 0
+  FullLater set work rest rest2 = (w w2 : Work) (f : Full) → w.left ≤ work.left → rest w ≡ Ok f → w.left ≤ f.left.left + w2.left → list_all (brings_no_line set.table) f.notes ≡ true → FullToo w w2 f (rest2 w2)
 
   step_alike : (set : Setting) (b : ℕ) → AlikeBelow set b → (depth before before2 : ℕ) (name name2 : Token) (a a2 : List Hidden) → map unlined_hidden a2 ≡ map unlined_hidden a
-      → (work work2 : ℕ) → work + length a < b → (rest rest2 : ℕ → Result Full Fault) → ((w : ℕ) (v : Full) → rest w ≡ Ok v → v.left ≤ w) → FullLater set work rest rest2
-      → (wanted : Bool) (f : Full) → full_step wanted (whole set) depth before name a work rest ≡ Ok f → work ≤ f.left + work2 → list_all (brings_no_line set.table) f.notes ≡ true
+      → (work work2 : Work) → work.left + length a < b → (rest rest2 : Work → Result Full Fault) → ((w : Work) (v : Full) → rest w ≡ Ok v → v.left.left ≤ w.left) → FullLater set work rest rest2
+      → (wanted : Bool) (f : Full) → full_step wanted (whole set) depth before name a work rest ≡ Ok f → work.left ≤ f.left.left + work2.left → list_all (brings_no_line set.table) f.notes ≡ true
       → FullToo work work2 f (full_step wanted (whole set) depth before2 name2 a2 work2 rest2)
   unfolding AlikeBelow
   step_alike set b below depth before before2 name name2 a a2 same work work2 h rest rest2 falls later false f e room told =
       let j = onward_ok {A = Full} (rest work) (λ v. Ok (without_full v)) f e in
       let f_is : without_full j.0 ≡ f = ok_same (without_full j.0) f j.2 in
-      let left_is : j.0.left ≡ f.left = ap (λ (v : Full). v.left) f_is in
+      let left_is : j.0.left.left ≡ f.left.left = ap (λ (v : Full). v.left.left) f_is in
       let told_there : list_all (brings_no_line set.table) j.0.notes ≡ true = ap (λ (v : Full). list_all (brings_no_line set.table) v.notes) f_is ∙ told in
       let k = later work work2 j.0 (omega arith) j.1 (omega (arith, left_is)) told_there in
       subst (λ (v : Full). FullToo work work2 v (full_step false (whole set) depth before2 name2 a2 work2 rest2)) f_is (
         without_full k.0,
         ap (λ (r : Result Full Fault). onward r (λ v. Ok (without_full v))) k.1,
-        record { lists = ap (λ (l : List (List Hidden)). [] ∷ l) k.2.lists; notes = k.2.notes; cost = k.2.cost },
+        record { lists = ap (λ (l : List (List Hidden)). [] ∷ l) k.2.lists; notes = k.2.notes; cost = k.2.cost; counters = k.2.counters },
       )
   step_alike set b below depth before before2 name name2 a a2 same work work2 h rest rest2 falls later true f e room told =
       let i = onward_ok {A = Expanded} (alone (whole set) depth before name a work) (λ v. onward (rest v.left) (λ x. Ok (with_full v x))) f e in
       let c = cond_ok_yes (nat_lt depth most_depth) (TooDeep name.at) (whole set (suc depth) before a work) i.0 i.1 in
       let j = onward_ok {A = Full} (rest i.0.left) (λ x. Ok (with_full i.0 x)) f i.2 in
       let f_is : with_full i.0 j.0 ≡ f = ok_same (with_full i.0 j.0) f j.2 in
-      let left_is : j.0.left ≡ f.left = ap (λ (v : Full). v.left) f_is in
+      let left_is : j.0.left.left ≡ f.left.left = ap (λ (v : Full). v.left.left) f_is in
       let told_there : list_all (brings_no_line set.table) (i.0.notes ++ j.0.notes) ≡ true = ap (λ (v : Full). list_all (brings_no_line set.table) v.notes) f_is ∙ told in
       let parts = notes_parts (brings_no_line set.table) i.0.notes j.0.notes told_there in
       let falls1 = falls i.0.left j.0 j.1 in
@@ -246,6 +248,7 @@ module _ (far : Bool) where
           lists = ap (λ (v : List Hidden). v ∷ map plain l.0.lists) k.2.toks ∙ ap (λ (v : List (List Hidden)). plain i.0.toks ∷ v) l.2.lists;
           notes = notes_join k.0.notes l.0.notes i.0.notes j.0.notes k.2.notes l.2.notes;
           cost = omega arith;
+          counters = (l.2.counters.0 ∙ k.2.counters.0, l.2.counters.1 ∙ k.2.counters.1);
         },
       )
 
@@ -256,14 +259,14 @@ module _ (far : Bool) where
   rest_lists a a2 raw raw2 e = cc
 
   full_alike : (set : Setting) (b : ℕ) → AlikeBelow set b → (depth before before2 : ℕ) (name name2 : Token) (chains : List (List Part)) (i n : ℕ) (raw raw2 : List (List Hidden))
-      → AllWithin n raw → unlined_lists raw2 ≡ unlined_lists raw → (work work2 : ℕ) → work + n < b → (f : Full)
-      → full_from (whole set) depth before name chains i raw work ≡ Ok f → work ≤ f.left + work2 → list_all (brings_no_line set.table) f.notes ≡ true
+      → AllWithin n raw → unlined_lists raw2 ≡ unlined_lists raw → (work work2 : Work) → work.left + n < b → (f : Full)
+      → full_from (whole set) depth before name chains i raw work ≡ Ok f → work.left ≤ f.left.left + work2.left → list_all (brings_no_line set.table) f.notes ≡ true
       → FullToo work work2 f (full_from (whole set) depth before2 name2 chains i raw2 work2)
   full_alike set b below depth before before2 name name2 chains i n [] (a2 ∷ raw2) within same work work2 h f is room told = absurd cc
   full_alike set b below depth before before2 name name2 chains i n (a ∷ raw) [] within same work work2 h f is room told = absurd cc
   full_alike set b below depth before before2 name name2 chains i n [] [] within same work work2 h f is room told =
       subst (λ (v : Full). FullToo work work2 v (full_from (whole set) depth before2 name2 chains i [] work2)) (ok_same (full [] [] work) f is)
-      (full [] [] work2, refl, record { lists = refl; notes = refl; cost = omega arith })
+      (full [] [] work2, refl, record { lists = refl; notes = refl; cost = omega arith; counters = (refl, refl) })
   full_alike set b below depth before before2 name name2 chains i n (a ∷ raw) (a2 ∷ raw2) (more here behind) same work work2 h f is room told =
       step_alike set b below depth before before2 name name2 a a2 (first_lists a a2 raw raw2 same) work work2 (omega arith)
       (full_from (whole set) depth before name chains (suc i) raw) (full_from (whole set) depth before2 name2 chains (suc i) raw2)
@@ -272,38 +275,38 @@ module _ (far : Bool) where
       (occurs_alone i chains) f is room told
 
   -- the other replacement, with the same cost
-  spent_alike : (loose : Bool) (name name2 : Token) (cost work work2 : ℕ) (r r2 : Result (Made (List Hidden)) Fault) (e : Expanded) → spent name cost work r ≡ Ok e
-      → mapped (canon loose) r2 ≡ mapped (canon loose) r → work ≤ e.left + work2 → (e2 : Expanded) × (spent name2 cost work2 r2 ≡ Ok e2) × AreAlike loose work work2 e e2
+  spent_alike : (loose : Bool) (name name2 : Token) (cost : ℕ) (work work2 : Work) (r r2 : Result (Made (List Hidden)) Fault) (e : Expanded) → spent name cost work r ≡ Ok e
+      → mapped (canon loose) r2 ≡ mapped (canon loose) r → work.left ≤ e.left.left + work2.left → (e2 : Expanded) × (spent name2 cost work2 r2 ≡ Ok e2) × AreAlike loose work work2 e e2
   spent_alike loose name name2 cost work work2 r r2 e is same room =
-      let c = cond_ok (nat_lt work cost) (TooMuchWork name.at) (onward r (λ m. Ok (expanded m.value m.notes (work - cost)))) e is in
-      let i = onward_ok {A = Made (List Hidden)} r (λ m. Ok (expanded m.value m.notes (work - cost))) e c.1 in
-      let e_is : expanded i.0.value i.0.notes (work - cost) ≡ e = ok_same (expanded i.0.value i.0.notes (work - cost)) e i.2 in
-      let left_is : work - cost ≡ e.left = ap (λ (v : Expanded). v.left) e_is in
+      let c = cond_ok (nat_lt work.left cost) (TooMuchWork name.at) (onward r (λ m. Ok (expanded m.value m.notes (record work { left = work.left - cost })))) e is in
+      let i = onward_ok {A = Made (List Hidden)} r (λ m. Ok (expanded m.value m.notes (record work { left = work.left - cost }))) e c.1 in
+      let e_is : expanded i.0.value i.0.notes (record work { left = work.left - cost }) ≡ e = ok_same (expanded i.0.value i.0.notes (record work { left = work.left - cost })) e i.2 in
+      let left_is : work.left - cost ≡ e.left.left = ap (λ (v : Expanded). v.left.left) e_is in
       let k = mapped_ok (canon loose) r2 (made (canon loose i.0.value) (map plain_note i.0.notes)) (same ∙ ap (mapped (canon loose)) i.1) in
-      let enough = ltb-false work cost c.0 in
-      let enough2 : cost ≤ work2 = omega (arith, left_is) in
-      let e2 : Expanded = expanded k.0.value k.0.notes (work2 - cost) in
+      let enough = ltb-false work.left cost c.0 in
+      let enough2 : cost ≤ work2.left = omega (arith, left_is) in
+      let e2 : Expanded = expanded k.0.value k.0.notes (record work2 { left = work2.left - cost }) in
       subst (λ (v : Expanded). (e2 : Expanded) × (spent name2 cost work2 r2 ≡ Ok e2) × AreAlike loose work work2 v e2) e_is (
         e2,
-        ap (λ (v : Bool). cond v (Err (TooMuchWork name2.at)) (onward r2 (λ m. Ok (expanded m.value m.notes (work2 - cost))))) (le-ltb work2 cost enough2)
-            ∙ ap (λ (v : Result (Made (List Hidden)) Fault). onward v (λ m. Ok (expanded m.value m.notes (work2 - cost)))) k.1,
-        record { toks = k.2; notes = k.3; cost = omega arith },
+        ap (λ (v : Bool). cond v (Err (TooMuchWork name2.at)) (onward r2 (λ m. Ok (expanded m.value m.notes (record work2 { left = work2.left - cost }))))) (le-ltb work2.left cost enough2)
+            ∙ ap (λ (v : Result (Made (List Hidden)) Fault). onward v (λ m. Ok (expanded m.value m.notes (record work2 { left = work2.left - cost })))) k.1,
+        record { toks = k.2; notes = k.3; cost = omega arith; counters = (refl, refl) },
       )
 
-  spent_falls : (name : Token) (cost work : ℕ) (r : Result (Made (List Hidden)) Fault) (e : Expanded) → spent name cost work r ≡ Ok e → e.left ≤ work
+  spent_falls : (name : Token) (cost : ℕ) (work : Work) (r : Result (Made (List Hidden)) Fault) (e : Expanded) → spent name cost work r ≡ Ok e → e.left.left ≤ work.left
   spent_falls name cost work r e is =
-      let c = cond_ok (nat_lt work cost) (TooMuchWork name.at) (onward r (λ m. Ok (expanded m.value m.notes (work - cost)))) e is in
-      let i = onward_ok {A = Made (List Hidden)} r (λ m. Ok (expanded m.value m.notes (work - cost))) e c.1 in
-      let left_is : work - cost ≡ e.left = ap (λ (v : Expanded). v.left) (ok_same (expanded i.0.value i.0.notes (work - cost)) e i.2) in
+      let c = cond_ok (nat_lt work.left cost) (TooMuchWork name.at) (onward r (λ m. Ok (expanded m.value m.notes (record work { left = work.left - cost })))) e is in
+      let i = onward_ok {A = Made (List Hidden)} r (λ m. Ok (expanded m.value m.notes (record work { left = work.left - cost }))) e c.1 in
+      let left_is : work.left - cost ≡ e.left.left = ap (λ (v : Expanded). v.left.left) (ok_same (expanded i.0.value i.0.notes (record work { left = work.left - cost })) e i.2) in
       omega (arith, left_is)
 
-  abbrev PutToo : Bool → Form → List ℕ → Next → ℕ → ℕ → Token → Definition → List (List Hidden) → ℕ → ℕ → Expanded → Type 0
+  abbrev PutToo : Bool → Form → List ℕ → Next → ℕ → ℕ → Token → Definition → List (List Hidden) → Work → Work → Expanded → Type 0
   PutToo loose form path next depth before2 name2 m raw2 work work2 e =
       (e2 : Expanded) × (put_for form path next depth before2 name2 m raw2 work2 ≡ Ok e2) × AreAlike loose work work2 e e2
 
   substituted_alike : (loose : Bool) (set : Setting) (b : ℕ) → AlikeBelow set b → (depth before before2 : ℕ) (name name2 : Token) → label loose name2 ≡ label loose name → (m : Definition) (n : ℕ)
-      → (raw raw2 : List (List Hidden)) → AllWithin n raw → unlined_lists raw2 ≡ unlined_lists raw → (work work2 : ℕ) → work + n < b → (e : Expanded)
-      → substituted (whole set) depth before name m raw work ≡ Ok e → work ≤ e.left + work2 → list_all (brings_no_line set.table) e.notes ≡ true
+      → (raw raw2 : List (List Hidden)) → AllWithin n raw → unlined_lists raw2 ≡ unlined_lists raw → (work work2 : Work) → work.left + n < b → (e : Expanded)
+      → substituted (whole set) depth before name m raw work ≡ Ok e → work.left ≤ e.left.left + work2.left → list_all (brings_no_line set.table) e.notes ≡ true
       → (e2 : Expanded) × (substituted (whole set) depth before2 name2 m raw2 work2 ≡ Ok e2) × AreAlike loose work work2 e e2
   substituted_alike loose set b below depth before before2 name name2 names m n raw raw2 within same work work2 h e is room told =
       let cs = chains_of m in
@@ -315,7 +318,7 @@ module _ (far : Bool) where
       let cost = cost_of name (args_of i.0.lists) cs in
       let j = onward_ok {A = Expanded} (spent name cost i.0.left (result_of name (args_of i.0.lists) cs)) (λ o. Ok (noted i.0.notes o)) e i.2 in
       let e_is : noted i.0.notes j.0 ≡ e = ok_same (noted i.0.notes j.0) e j.2 in
-      let left_is : j.0.left ≡ e.left = ap (λ (v : Expanded). v.left) e_is in
+      let left_is : j.0.left.left ≡ e.left.left = ap (λ (v : Expanded). v.left.left) e_is in
       let told_there : list_all (brings_no_line set.table) (i.0.notes ++ j.0.notes) ≡ true = ap (λ (v : Expanded). list_all (brings_no_line set.table) v.notes) e_is ∙ told in
       let parts = notes_parts (brings_no_line set.table) i.0.notes j.0.notes told_there in
       let falls = spent_falls name cost i.0.left (result_of name (args_of i.0.lists) cs) j.0 j.1 in
@@ -332,14 +335,15 @@ module _ (far : Bool) where
         ap (λ (v : Result Full Fault). onward v next2) k.1
             ∙ ap (λ (c : ℕ). onward (spent name2 c k.0.left (result_of name2 (args2_of k.0.lists) cs)) (λ o. Ok (noted k.0.notes o))) r.1
             ∙ ap (λ (v : Result Expanded Fault). onward v (λ o. Ok (noted k.0.notes o))) l.1,
-        record { toks = l.2.toks; notes = notes_join k.0.notes l.0.notes i.0.notes j.0.notes k.2.notes l.2.notes; cost = omega arith },
+        record { toks = l.2.toks; notes = notes_join k.0.notes l.0.notes i.0.notes j.0.notes k.2.notes l.2.notes; cost = omega arith; counters = (l.2.counters.0 ∙ k.2.counters.0, l.2.counters.1 ∙ k.2.counters.1) },
       )
 
   put_alike : (loose : Bool) (set : Setting) (b : ℕ) → AlikeBelow set b → (form : Form) → stands_for_line form ≡ false → (depth before before2 : ℕ) (name name2 : Token) → label loose name2 ≡ label loose name
-      → (m : Definition) (n : ℕ) (raw raw2 : List (List Hidden)) → AllWithin n raw → unlined_lists raw2 ≡ unlined_lists raw → (work work2 : ℕ) → work + n < b → (e : Expanded)
-      → put_for form set.path (whole set) depth before name m raw work ≡ Ok e → work ≤ e.left + work2 → list_all (brings_no_line set.table) e.notes ≡ true
+      → (m : Definition) (n : ℕ) (raw raw2 : List (List Hidden)) → AllWithin n raw → unlined_lists raw2 ≡ unlined_lists raw → (work work2 : Work) → work.left + n < b → (e : Expanded)
+      → put_for form set.path (whole set) depth before name m raw work ≡ Ok e → work.left ≤ e.left.left + work2.left → list_all (brings_no_line set.table) e.notes ≡ true
       → PutToo loose form set.path (whole set) depth before2 name2 m raw2 work work2 e
   put_alike loose set b below form.Line no_line depth before before2 name name2 names m n raw raw2 within same work work2 h e is room told = absurd cc
+  put_alike loose set b below form.Counter no_line depth before before2 name name2 names m n raw raw2 within same work work2 h e is room told = absurd cc
   put_alike loose set b below form.File no_line depth before before2 name name2 names m n raw raw2 within same work work2 h e is room told =
       spent_alike loose name name2 1 work work2 (Ok (made (hidden (path_string set.path name) [] ∷ []) [])) (Ok (made (hidden (path_string set.path name2) [] ∷ []) [])) e is
       (ap (λ (v : Token). Ok (made (hidden (record (unlined (path_string set.path name)) { gap = v.gap; at = v.at }) [] ∷ []) [])) names) room
@@ -351,17 +355,17 @@ module _ (far : Bool) where
   -- ---- steps
 
   -- the other tokens, expanded
-  abbrev Too : Bool → ℕ → ℕ → Expanded → Result Expanded Fault → Type 0
+  abbrev Too : Bool → Work → Work → Expanded → Result Expanded Fault → Type 0
   Too loose work work2 e r2 = (e2 : Expanded) × (r2 ≡ Ok e2) × AreAlike loose work work2 e e2
 
   stays_alike : (loose : Bool) (set : Setting) (b : ℕ) → AlikeBelow set b → (depth before before2 : ℕ) (t t2 : Hidden) (ts ts2 : List Hidden) → label_hidden loose t2 ≡ label_hidden loose t
-      → map unlined_hidden ts2 ≡ map unlined_hidden ts → (work work2 : ℕ) → work + length ts < b → (e : Expanded) → stays (whole set) depth before t ts work ≡ Ok e
-      → work ≤ e.left + work2 → list_all (brings_no_line set.table) e.notes ≡ true → Too loose work work2 e (stays (whole set) depth before2 t2 ts2 work2)
+      → map unlined_hidden ts2 ≡ map unlined_hidden ts → (work work2 : Work) → work.left + length ts < b → (e : Expanded) → stays (whole set) depth before t ts work ≡ Ok e
+      → work.left ≤ e.left.left + work2.left → list_all (brings_no_line set.table) e.notes ≡ true → Too loose work work2 e (stays (whole set) depth before2 t2 ts2 work2)
   unfolding AlikeBelow
   stays_alike loose set b below depth before before2 t t2 ts ts2 here behind work work2 h e is room told =
       let i = onward_ok {A = Expanded} (whole set depth (one_more depth before) ts work) (λ o. Ok (put_out t o)) e is in
       let e_is : put_out t i.0 ≡ e = ok_same (put_out t i.0) e i.2 in
-      let left_is : i.0.left ≡ e.left = ap (λ (v : Expanded). v.left) e_is in
+      let left_is : i.0.left.left ≡ e.left.left = ap (λ (v : Expanded). v.left.left) e_is in
       let told_there : list_all (brings_no_line set.table) i.0.notes ≡ true = ap (λ (v : Expanded). list_all (brings_no_line set.table) v.notes) e_is ∙ told in
       let strict : canon false ts2 ≡ canon false ts = canon_strict ts2 ∙ behind ∙ sym (canon_strict ts) in
       let k = below false depth (one_more depth before) (one_more depth before2) ts ts2 work work2 i.0 h i.1 strict (omega (arith, left_is)) told_there in
@@ -373,6 +377,7 @@ module _ (far : Bool) where
           toks = ap (λ (v : Hidden). v ∷ map unlined_hidden k.0.toks) here ∙ ap (λ (l : List Hidden). label_hidden loose t ∷ l) later;
           notes = k.2.notes;
           cost = k.2.cost;
+          counters = k.2.counters;
         },
       )
 
@@ -400,8 +405,8 @@ module _ (far : Bool) where
 
   replaced_alike : (loose : Bool) (set : Setting) (b : ℕ) → AlikeBelow set b → (depth before before2 : ℕ) (name name2 : Token) → label loose name2 ≡ label loose name
       → (m : Definition) → set.table name.text ≡ Some m → (added : List (List ℕ)) (n : ℕ) (raw raw2 : List (List Hidden)) → AllWithin n raw → unlined_lists raw2 ≡ unlined_lists raw
-      → (ts ts2 : List Hidden) → map unlined_hidden ts2 ≡ map unlined_hidden ts → (work work2 : ℕ) → work + n < b → work + length ts < b → (e : Expanded)
-      → replaced set (whole set) depth before name m added raw ts work ≡ Ok e → work ≤ e.left + work2 → list_all (brings_no_line set.table) e.notes ≡ true
+      → (ts ts2 : List Hidden) → map unlined_hidden ts2 ≡ map unlined_hidden ts → (work work2 : Work) → work.left + n < b → work.left + length ts < b → (e : Expanded)
+      → replaced set (whole set) depth before name m added raw ts work ≡ Ok e → work.left ≤ e.left.left + work2.left → list_all (brings_no_line set.table) e.notes ≡ true
       → Too loose work work2 e (replaced set (whole set) depth before2 name2 m added raw2 ts2 work2)
   unfolding AlikeBelow
   replaced_alike loose set b below depth before before2 name name2 names m is_m added n raw raw2 within same ts ts2 behind work work2 h h2 e is room told =
@@ -410,14 +415,14 @@ module _ (far : Bool) where
       let notes : List Note = first_notes name m before ++ i.0.notes in
       let j = onward_ok {A = Expanded} (whole set depth before list i.0.left) (λ rest. Ok (noted notes rest)) e i.2 in
       let e_is : noted notes j.0 ≡ e = ok_same (noted notes j.0) e j.2 in
-      let left_is : j.0.left ≡ e.left = ap (λ (v : Expanded). v.left) e_is in
+      let left_is : j.0.left.left ≡ e.left.left = ap (λ (v : Expanded). v.left.left) e_is in
       let told_all : list_all (brings_no_line set.table) (notes ++ j.0.notes) ≡ true = ap (λ (v : Expanded). list_all (brings_no_line set.table) v.notes) e_is ∙ told in
       let parts = notes_parts (brings_no_line set.table) notes j.0.notes told_all in
       let parts2 = notes_parts (brings_no_line set.table) (first_notes name m before) i.0.notes parts.0 in
       let no_line = first_told set.table name m before i.0.notes is_m parts.0 in
       let puts = (put_for_puts b (whole set) (whole set) (whole_below_itself set b) m.form set.path depth before name m n raw within work h).falls i.0 i.1 in
       let falls = whole_falls set depth before list i.0.left j.0 j.1 in
-      let room2 : i.0.left + length list < b = omega (arith, length-append (map (hide_more added) i.0.toks) ts, length-map i.0.toks (hide_more added)) in
+      let room2 : i.0.left.left + length list < b = omega (arith, length-append (map (hide_more added) i.0.toks) ts, length-map i.0.toks (hide_more added)) in
       let k = put_alike loose set b below m.form no_line depth before before2 name name2 names m n raw raw2 within same work work2 h i.0 i.1 (omega (arith, left_is)) parts2.1 in
       let cost1 = k.2.cost in
       let list2 : List Hidden = map (hide_more added) k.0.toks ++ ts2 in
@@ -433,13 +438,14 @@ module _ (far : Bool) where
           toks = l.2.toks;
           notes = notes_join notes2 l.0.notes notes j.0.notes (notes_join (first_notes name2 m before2) k.0.notes (first_notes name m before) i.0.notes firsts k.2.notes) l.2.notes;
           cost = omega arith;
+          counters = (l.2.counters.0 ∙ k.2.counters.0, l.2.counters.1 ∙ k.2.counters.1);
         },
       )
 
   called_alike : (loose : Bool) (set : Setting) (b : ℕ) → AlikeBelow set b → (depth before before2 : ℕ) (t t2 : Hidden) → label_hidden loose t2 ≡ label_hidden loose t
-      → (m : Definition) → set.table t.tok.text ≡ Some m → (ts ts2 : List Hidden) → map unlined_hidden ts2 ≡ map unlined_hidden ts → (work work2 : ℕ) → work + length ts < b → (e : Expanded)
+      → (m : Definition) → set.table t.tok.text ≡ Some m → (ts ts2 : List Hidden) → map unlined_hidden ts2 ≡ map unlined_hidden ts → (work work2 : Work) → work.left + length ts < b → (e : Expanded)
       → (call : Option Call) → call_from ts (commas_of m) 0 ≡ call → called set (whole set) depth before t m work call ≡ Ok e
-      → work ≤ e.left + work2 → list_all (brings_no_line set.table) e.notes ≡ true
+      → work.left ≤ e.left.left + work2.left → list_all (brings_no_line set.table) e.notes ≡ true
       → Too loose work work2 e (called set (whole set) depth before2 t2 m work2 (call_from ts2 (commas_of m) 0))
   called_alike loose set b below depth before before2 t t2 here m is_m ts ts2 behind work work2 h e None call_is is room told = err_ok (OpenCall t.tok.at) e is
   called_alike loose set b below depth before before2 t t2 here m is_m ts ts2 behind work work2 h e (Some call) call_is is room told =
@@ -479,8 +485,8 @@ module _ (far : Bool) where
   open_plain p p2 same = ap (λ (v : Hidden). is_open v.tok) same
 
   behind_alike : (loose : Bool) (set : Setting) (b : ℕ) → AlikeBelow set b → (depth before before2 : ℕ) (t t2 : Hidden) → label_hidden loose t2 ≡ label_hidden loose t
-      → (m : Definition) → set.table t.tok.text ≡ Some m → (ts ts2 : List Hidden) → map unlined_hidden ts2 ≡ map unlined_hidden ts → (work work2 : ℕ) → work + length ts < b → (e : Expanded)
-      → behind_name set (whole set) depth before t m ts work ≡ Ok e → work ≤ e.left + work2 → list_all (brings_no_line set.table) e.notes ≡ true
+      → (m : Definition) → set.table t.tok.text ≡ Some m → (ts ts2 : List Hidden) → map unlined_hidden ts2 ≡ map unlined_hidden ts → (work work2 : Work) → work.left + length ts < b → (e : Expanded)
+      → behind_name set (whole set) depth before t m ts work ≡ Ok e → work.left ≤ e.left.left + work2.left → list_all (brings_no_line set.table) e.notes ≡ true
       → Too loose work work2 e (behind_name set (whole set) depth before2 t2 m ts2 work2)
   behind_alike loose set b below depth before before2 t t2 here m is_m [] [] behind work work2 h e is room told =
       stays_alike loose set b below depth before before2 t t2 [] [] here behind work work2 h e is room told
@@ -516,8 +522,8 @@ module _ (far : Bool) where
   macro_found table t m e = (found_macro table t m e).1
 
   act_alike : (loose : Bool) (set : Setting) (b : ℕ) → AlikeBelow set b → (depth before before2 : ℕ) (t t2 : Hidden) → label_hidden loose t2 ≡ label_hidden loose t
-      → (ts ts2 : List Hidden) → map unlined_hidden ts2 ≡ map unlined_hidden ts → (work work2 : ℕ) → work + length ts < b → (e : Expanded)
-      → (m : Option Definition) → macro_of set.table t ≡ m → act set (whole set) depth before t ts work m ≡ Ok e → work ≤ e.left + work2 → list_all (brings_no_line set.table) e.notes ≡ true
+      → (ts ts2 : List Hidden) → map unlined_hidden ts2 ≡ map unlined_hidden ts → (work work2 : Work) → work.left + length ts < b → (e : Expanded)
+      → (m : Option Definition) → macro_of set.table t ≡ m → act set (whole set) depth before t ts work m ≡ Ok e → work.left ≤ e.left.left + work2.left → list_all (brings_no_line set.table) e.notes ≡ true
       → Too loose work work2 e (act set (whole set) depth before2 t2 ts2 work2 m)
   act_alike loose set b below depth before before2 t t2 here ts ts2 behind work work2 h e None is_m is room told =
       stays_alike loose set b below depth before before2 t t2 ts ts2 here behind work work2 h e is room told
@@ -547,14 +553,14 @@ module _ (far : Bool) where
           let c = replaced_alike loose set b below depth before before2 t.tok t2.tok tok_here m (macro_found set.table t m is_m) added 0 [] [] none refl ts ts2 behind work work2 (omega arith) h e k room told in
           (c.0, go false w (Ok c.0) (ap (λ (l : List (List ℕ)). replaced set (whole set) depth before2 t2.tok m l [] ts2 work2) hides ∙ c.1), c.2)
 
-  whole_alike : (loose : Bool) (set : Setting) (b : ℕ) → AlikeBelow set b → (depth before before2 : ℕ) (ts ts2 : List Hidden) (work work2 : ℕ) (e : Expanded) → work + length ts < suc b
-      → whole set depth before ts work ≡ Ok e → canon loose ts2 ≡ canon loose ts → work ≤ e.left + work2 → list_all (brings_no_line set.table) e.notes ≡ true
+  whole_alike : (loose : Bool) (set : Setting) (b : ℕ) → AlikeBelow set b → (depth before before2 : ℕ) (ts ts2 : List Hidden) (work work2 : Work) (e : Expanded) → work.left + length ts < suc b
+      → whole set depth before ts work ≡ Ok e → canon loose ts2 ≡ canon loose ts → work.left ≤ e.left.left + work2.left → list_all (brings_no_line set.table) e.notes ≡ true
       → Too loose work work2 e (whole set depth before2 ts2 work2)
   whole_alike loose set b below depth before before2 [] (t2 ∷ ts2) work work2 e h is same room told = absurd cc
   whole_alike loose set b below depth before before2 (t ∷ ts) [] work work2 e h is same room told = absurd cc
   whole_alike loose set b below depth before before2 [] [] work work2 e h is same room told =
       subst (λ (v : Expanded). Too loose work work2 v (whole set depth before2 [] work2)) (ok_same (expanded [] [] work) e (sym (whole_is_step set depth before [] work) ∙ is))
-      (expanded [] [] work2, whole_is_step set depth before2 [] work2, record { toks = refl; notes = refl; cost = omega arith })
+      (expanded [] [] work2, whole_is_step set depth before2 [] work2, record { toks = refl; notes = refl; cost = omega arith; counters = (refl, refl) })
   whole_alike loose set b below depth before before2 (t ∷ ts) (t2 ∷ ts2) work work2 e h is same room told =
       let here : label_hidden loose t2 ≡ label_hidden loose t = first_same (label_hidden loose t2) (label_hidden loose t) (map unlined_hidden ts2) (map unlined_hidden ts) same in
       let behind : map unlined_hidden ts2 ≡ map unlined_hidden ts = rest_same (label_hidden loose t2) (label_hidden loose t) (map unlined_hidden ts2) (map unlined_hidden ts) same in
@@ -572,7 +578,7 @@ module _ (far : Bool) where
 pub expands_alike : ExpandsAlike
 unfolding AlikeBelow
 expands_alike = λ far loose set depth before before2 ts ts2 work work2 e is same room told.
-    let below : (loose : Bool) (depth before before2 : ℕ) (us us2 : List Hidden) (w w2 : ℕ) (e : Expanded) → w + length us < suc (work + length ts)
-    → whole set depth before us w ≡ Ok e → alike.canon far loose us2 ≡ alike.canon far loose us → w ≤ e.left + w2 → list_all (brings_no_line set.table) e.notes ≡ true
-    → Too far loose w w2 e (whole set depth before2 us2 w2) = alike_below far set (suc (work + length ts)) in
+    let below : (loose : Bool) (depth before before2 : ℕ) (us us2 : List Hidden) (w w2 : Work) (e : Expanded) → w.left + length us < suc (work.left + length ts)
+    → whole set depth before us w ≡ Ok e → alike.canon far loose us2 ≡ alike.canon far loose us → w.left ≤ e.left.left + w2.left → list_all (brings_no_line set.table) e.notes ≡ true
+    → Too far loose w w2 e (whole set depth before2 us2 w2) = alike_below far set (suc (work.left + length ts)) in
     below loose depth before before2 ts ts2 work work2 e (omega arith) is same room told

@@ -10,9 +10,10 @@ use Rattle.cs_base.proofs.BoolLemmas.{not_true, or_last as or_right}
 use Rattle.cs_base.proofs.ListLemmas.{drop_at}
 use Rattle.line_shape.specs.Signs.{is_name, is_open, is_close, is_comma}
 use Rattle.line_shape.proofs.SignLemmas.{close-no_name, comma-no_name}
+use Rattle.macro_body.specs.declared.notes.Work.{Work}
 use Rattle.macro_body.specs.Hides.{Hidden, hidden, toks_of, unhidden}
 use Rattle.macro_body.specs.Macro.{Table}
-use Rattle.macro_body.specs.Notes.{Note, Replaced, Linked, Stringized, Pasted, Expanded, expanded, put_out}
+use Rattle.macro_body.specs.Notes.{Note, Replaced, Linked, Stringized, Pasted, Counted, Expanded, expanded, put_out}
 use Rattle.macro_expand.specs.Expansion.{Setting, whole, expansion}
 use Rattle.macro_expand.specs.Laws.{begins_open, ExpandsInParts}
 use Rattle.macro_expand.proofs.WholeLemmas.{whole_falls}
@@ -22,6 +23,7 @@ use Rattle.list_cuts.specs.Cuts.{Cut, done, keep, list, Items, ended, item, coun
 use Rattle.list_cuts.proofs.CutLemmas.{length-order, length-arranged}
 use Rattle.expansion_laws.specs.Alike.{unlined, label, names_line, brings_no_line}
 use Rattle.expansion_laws.specs.Arranging.{IsMark, MarksStand, ItemsStand, AreDistinct, in_lists, LinesStay, labels, bare, IsLike, AreLike, StandFor, RunsAreArranged}
+use Rattle.expansion_laws.proofs.AlikeLemmas.{expands_alike}
 use Rattle.expansion_laws.proofs.BeforeLemmas.{Between, wider, told_between}
 use Rattle.expansion_laws.proofs.MarkLemmas.{distinct_take, distinct_drop, open-no_name, close-no_open, comma-no_open, ends_sign, split_at}
 use Rattle.expansion_laws.proofs.GoingLemmas.{open_labels, open_unlined, name_unlined, one_like, Goes, goes_as, goes_sign, ends_apart, goes_both, goes_alike, Part, AllGo, IsBetween, AreGaps, runs_of, outs_of, costs, costs-cons, woven_goes, chosen, picked_chosen, chosen_go, chosen_cost, length-chosen}
@@ -51,12 +53,14 @@ quiet_all table low high (Replaced name m before ∷ notes) q b =
 quiet_all table low high (Linked x y ∷ notes) q b = quiet_all table low high notes q.1 b.1
 quiet_all table low high (Stringized toks s ∷ notes) q b = quiet_all table low high notes q.1 b.1
 quiet_all table low high (Pasted x y z ∷ notes) q b = quiet_all table low high notes q.1 b.1
+quiet_all table low high (Counted z ∷ notes) q b = quiet_all table low high notes q.1 b.1
 
 quiet_note : (table : Table) (low high : ℕ) (note : Note) → brings_no_line table note ≡ true → QuietNote table low high note
 quiet_note table low high (Replaced name m before) h = λ one two. not_true (names_line (table name.text)) h
 quiet_note table low high (Linked x y) h = tt
 quiet_note table low high (Stringized toks s) h = tt
 quiet_note table low high (Pasted x y z) h = tt
+quiet_note table low high (Counted z) h = tt
 
 quiet_from : (table : Table) (low high : ℕ) (notes : List Note) → list_all (brings_no_line table) notes ≡ true → AllNotes (QuietNote table low high) notes
 quiet_from table low high [] h = tt
@@ -72,6 +76,16 @@ quiet_parts table all xs ys e h =
 
 notes_parts : (N : Note → Type 0) (all xs ys : List Note) → all ≡ xs ++ ys → AllNotes N all → AllNotes N xs × AllNotes N ys
 notes_parts N all xs ys e h = notes_split N xs ys (subst (AllNotes N) e h)
+
+-- ---- the work that is left
+
+-- where no number is brought, the next number of the unit stays
+counter_stays : (set : Setting) (before : ℕ) (ts : List Hidden) (work : Work) (e : Expanded) → whole set 0 before ts work ≡ Ok e
+    → list_all (brings_no_line set.table) e.notes ≡ true → e.left.counter ≡ work.counter
+counter_stays set before ts work e is quiet = (expands_alike false false set 0 before before ts ts work work e is refl (omega arith) quiet).2.counters.0
+
+same_work : (v w : Work) → v.left ≡ w.left → v.counter ≡ w.counter → v ≡ w
+same_work v w left counter = λ i. record { left = left i; counter = counter i }
 
 -- ---- tokens without labels
 
@@ -97,7 +111,7 @@ toks_drop k hs xs e = drop-map (λ (h : Hidden). h.tok) k hs ∙ ap toks_of (sym
 
 -- Each goes so anywhere, arranged by its own cut; between them stand signs; and what stands behind the list is expanded to
 -- what is left.
-record Walked (w : World) (is js : Items) (us run : List Token) (before work : ℕ) (e : Expanded) : Type 0 where
+record Walked (w : World) (is js : Items) (us run : List Token) (before : ℕ) (work : Work) (e : Expanded) : Type 0 where
   items : List Part
   gaps : List Part
   items_run : runs_of items ≡ items_of w.order is us
@@ -109,12 +123,13 @@ record Walked (w : World) (is js : Items) (us run : List Token) (before work : �
   all : AllGo w.set items
   between : AreGaps w.set gaps
   before2 : ℕ
-  work2 : ℕ
+  work2 : Work
   e2 : Expanded
   rest : whole w.set 0 before2 (unhidden (drop (span_of is) run)) work2 ≡ Ok e2
   toks : e2.toks ≡ drop (span_of js) e.toks
   some : 0 < length e2.toks
-  cost : costs items + work2 ≡ work
+  cost : costs items + work2.left ≡ work.left
+  counter : work2.counter ≡ work.counter
   left : e2.left ≡ e.left
   placed : before2 + length e2.toks ≡ before + length e.toks
   here : List Note
@@ -125,7 +140,7 @@ record Walked (w : World) (is js : Items) (us run : List Token) (before work : �
   no_open : is_open close ≡ false
 
 -- the list in the new order goes so anywhere
-list_goes : (w : World) (is js : Items) (us run : List Token) (before work : ℕ) (e : Expanded) (k : Walked w is js us run before work e) → count_of js ≡ w.n
+list_goes : (w : World) (is js : Items) (us run : List Token) (before : ℕ) (work : Work) (e : Expanded) (k : Walked w is js us run before work e) → count_of js ≡ w.n
     → Goes w.set (woven (picked w.order (items_of w.order is us)) (gaps_of is us)) (woven (picked w.order (items_of w.order js (bares e.toks))) (gaps_of js (bares e.toks))) (costs k.items) false
 list_goes w is js us run before work e k count =
     let many : length k.items ≡ w.n = k.many ∙ count in
@@ -200,9 +215,9 @@ mutual
   unfolding arranged items_of gaps_of span_of count_of
 
   -- tokens that go so somewhere go so anywhere in the new order
-  item_goes : (w : World) (c d : Cut) (loose : Bool) (us run : List Token) (before work : ℕ) (e : Expanded) → whole w.set 0 before (unhidden run) work ≡ Ok e
+  item_goes : (w : World) (c d : Cut) (loose : Bool) (us run : List Token) (before : ℕ) (work : Work) (e : Expanded) → whole w.set 0 before (unhidden run) work ≡ Ok e
       → AreDistinct run → MarksStand c d run (toks_of e.toks) → list_all (brings_no_line w.set.table) e.notes ≡ true → IsLike loose c us run → AreOf w.n d
-      → Goes w.set (arranged w.order c us) (arranged w.order d (bares e.toks)) (work - e.left) false
+      → Goes w.set (arranged w.order c us) (arranged w.order d (bares e.toks)) (work.left - e.left.left) false
   item_goes w done done loose us run before work e is dis stand quiet like of =
       goes_alike w.set loose before run us work e false is quiet like (λ h. absurd (lacks h))
     where
@@ -237,8 +252,8 @@ mutual
       let woven_of : List Token → List Token = λ l. woven (picked w.order (items_of w.order js l)) (gaps_of js l) in
       let last_run : List Token = arranged w.order c us3 in
       let last_out : List Token = arranged w.order d (bares k2.e2.toks) in
-      let behind = goes_both w.in_parts w.set woven_run last_run (woven_of (bares s.z.toks)) last_out (costs k2.items) (k2.work2 - k2.e2.left) false false middle rest (inr shut) in
-      let all = goes_both w.in_parts w.set (take (suc k) us) (woven_run ++ last_run) (bares x2.toks) (woven_of (bares s.z.toks) ++ last_out) (work - s.x.left) (costs k2.items + (k2.work2 - k2.e2.left)) true false
+      let behind = goes_both w.in_parts w.set woven_run last_run (woven_of (bares s.z.toks)) last_out (costs k2.items) (k2.work2.left - k2.e2.left.left) false false middle rest (inr shut) in
+      let all = goes_both w.in_parts w.set (take (suc k) us) (woven_run ++ last_run) (bares x2.toks) (woven_of (bares s.z.toks) ++ last_out) (work.left - s.x.left.left) (costs k2.items + (k2.work2.left - k2.e2.left.left)) true false
       first behind (inl refl) in
       let os : List Token = bares e.toks in
       let a : bares x2.toks ≡ take (suc m) os = ap bares s.upto ∙ bares_take (suc m) e.toks in
@@ -249,15 +264,15 @@ mutual
       ∙ ap (λ (l : List Token). take (suc m) os ++ (woven_of l ++ last_out)) b
       ∙ ap (λ (l : List Token). take (suc m) os ++ (woven_of (drop (suc m) os) ++ arranged w.order d l)) b2 in
       let cost = k2.cost in
-      let left = k2.left in
-      let left2 = s.left in
+      let left = ap (λ (v : Work). v.left) k2.left in
+      let left2 = ap (λ (v : Work). v.left) s.left in
       goes_as w.set (take (suc k) us ++ (woven_run ++ last_run)) (arranged w.order (keep (suc k) (list is c)) us) (bares x2.toks ++ (woven_of (bares s.z.toks) ++ last_out))
-      (arranged w.order (keep (suc m) (list js d)) os) ((work - s.x.left) + (costs k2.items + (k2.work2 - k2.e2.left))) (work - e.left) false
+      (arranged w.order (keep (suc m) (list js d)) os) ((work.left - s.x.left.left) + (costs k2.items + (k2.work2.left - k2.e2.left.left))) (work.left - e.left.left) false
       refl outs (omega (arith, cost, left, left2, x_fell, e2_fell)) all
   item_goes w c d loose us run before work e is dis stand quiet like of = absurd stand
 
   -- the items of a list, and what stands between and behind them
-  items_go : (w : World) (is js : Items) (us run : List Token) (before work : ℕ) (e : Expanded) (low high : ℕ) → whole w.set 0 before (unhidden run) work ≡ Ok e
+  items_go : (w : World) (is js : Items) (us run : List Token) (before : ℕ) (work : Work) (e : Expanded) (low high : ℕ) → whole w.set 0 before (unhidden run) work ≡ Ok e
       → AreDistinct run → 0 < count_of js → ItemsStand is js run (toks_of e.toks) → AllNotes (QuietNote w.set.table low high) e.notes
       → low ≤ before → before + span_of js ≤ high → AreLike is us run → AreItemsOf w.n js → Walked w is js us run before work e
   items_go w ended ended us run before work e low high e_is dis some stand quiet from to like of = absurd (omega (arith, some))
@@ -273,7 +288,7 @@ mutual
       let x_quiet = quiet_all w.set.table low high s.x.notes q.0
       (wider before (before + length s.x.toks) low high s.x.notes from (omega (arith, long, to)) told) in
       let x_stand : MarksStand c d (take n run) (toks_of s.x.toks) = subst (λ (l : List Token). MarksStand c d (take n run) l) (toks_take m e.toks s.x.toks s.x_toks) stand.0 in
-      let p : Part = record { run = arranged w.order c (take n us); outs = arranged w.order d (bares s.x.toks); cost = work - s.x.left } in
+      let p : Part = record { run = arranged w.order c (take n us); outs = arranged w.order d (bares s.x.toks); cost = work.left - s.x.left.left } in
       let goes = item_goes w c d true (take n us) (take n run) before work s.x s.first (distinct_take n run dis) x_stand x_quiet like.0 of.0 in
       let g : Part = record { run = []; outs = []; cost = 0 } in
       let outs_is : arranged w.order d (bares s.x.toks) ≡ arranged w.order d (take m (bares e.toks)) = ap (λ (l : List Token). arranged w.order d l) (ap bares s.x_toks ∙ bares_take m e.toks) in
@@ -299,6 +314,7 @@ mutual
         toks = s.from ∙ ap (λ (i : ℕ). drop i e.toks) span2;
         some = omega arith;
         cost = omega (arith, cost, x_fell);
+        counter = counter_stays w.set before (unhidden (take n run)) work s.x s.first x_quiet;
         left = sym s.left;
         placed = omega (arith, count, long);
         here = s.x.notes;
@@ -322,7 +338,7 @@ mutual
       let x_quiet = quiet_all w.set.table low high s.x.notes q.0
       (wider before (before + length s.x.toks) low high s.x.notes from (omega (arith, long, to)) told) in
       let x_stand : MarksStand c d (take n run) (toks_of s.x.toks) = subst (λ (l : List Token). MarksStand c d (take n run) l) (toks_take m e.toks s.x.toks s.x_toks) stand.0 in
-      let p : Part = record { run = arranged w.order c (take n us); outs = arranged w.order d (bares s.x.toks); cost = work - s.x.left } in
+      let p : Part = record { run = arranged w.order c (take n us); outs = arranged w.order d (bares s.x.toks); cost = work.left - s.x.left.left } in
       let goes = item_goes w c d true (take n us) (take n run) before work s.x s.first (distinct_take n run dis) x_stand x_quiet like.0 of.0 in
       let outs_is : arranged w.order d (bares s.x.toks) ≡ arranged w.order d (take m (bares e.toks)) = ap (λ (l : List Token). arranged w.order d l) (ap bares s.x_toks ∙ bares_take m e.toks) in
       let g : Part = record { run = take gap (drop n us); outs = take gap2 (drop m (bares e.toks)); cost = 0 } in
@@ -366,6 +382,7 @@ mutual
         toks = k.toks ∙ ap (λ (l : List Hidden). drop (span_of js) l) z_toks ∙ toks_are;
         some = k.some;
         cost = omega (arith, cost, cost2, x_fell);
+        counter = k.counter ∙ counter_stays w.set before (unhidden (take n run)) work s.x s.first x_quiet;
         left = k.left ∙ sym s.left;
         placed = omega (arith, count, long, placed);
         here = s.x.notes ++ k.here;
@@ -394,6 +411,7 @@ line_notes table from c notes h = each_note (LineNote table from c) notes each
     each (Linked x y) k is = tt
     each (Stringized toks s) k is = tt
     each (Pasted x y z) k is = tt
+    each (Counted z) k is = tt
 
 -- what is so of numbers in a list is so of others
 lines_more : (table : Table) (from from2 : ℕ) (c c2 : Cut) (notes : List Note) → ((before : ℕ) → in_lists from2 c2 before ≡ true → in_lists from c before ≡ true)
@@ -403,6 +421,7 @@ lines_more table from from2 c c2 (Replaced name m before ∷ notes) more all = (
 lines_more table from from2 c c2 (Linked x y ∷ notes) more all = (tt, lines_more table from from2 c c2 notes more all.1)
 lines_more table from from2 c c2 (Stringized toks s ∷ notes) more all = (tt, lines_more table from from2 c c2 notes more all.1)
 lines_more table from from2 c c2 (Pasted x y z ∷ notes) more all = (tt, lines_more table from from2 c c2 notes more all.1)
+lines_more table from from2 c c2 (Counted z ∷ notes) more all = (tt, lines_more table from from2 c c2 notes more all.1)
 
 lines_quiet : (table : Table) (from low high : ℕ) (c : Cut) (notes : List Note) → ((before : ℕ) → low ≤ before → before ≤ high → in_lists from c before ≡ true)
     → AllNotes (LineNote table from c) notes → AllNotes (QuietNote table low high) notes
@@ -411,6 +430,7 @@ lines_quiet table from low high c (Replaced name m before ∷ notes) more all = 
 lines_quiet table from low high c (Linked x y ∷ notes) more all = (tt, lines_quiet table from low high c notes more all.1)
 lines_quiet table from low high c (Stringized toks s ∷ notes) more all = (tt, lines_quiet table from low high c notes more all.1)
 lines_quiet table from low high c (Pasted x y z ∷ notes) more all = (tt, lines_quiet table from low high c notes more all.1)
+lines_quiet table from low high c (Counted z ∷ notes) more all = (tt, lines_quiet table from low high c notes more all.1)
 
 in_this : (from m : ℕ) (js : Items) (d : Cut) (before : ℕ) → from + m ≤ before → before ≤ from + m + span_of js → in_lists from (keep m (list js d)) before ≡ true
 unfolding in_lists
@@ -423,7 +443,7 @@ in_later from m from2 js d before is h =
     (ap (λ (i : ℕ). in_lists i d before) (sym is) ∙ h)
 
 -- It is expanded to these tokens, with as much work left.
-record Ended (w : World) (before : ℕ) (new : List Token) (work : ℕ) (outs : List Token) (left : ℕ) : Type 0 where
+record Ended (w : World) (before : ℕ) (new : List Token) (work : Work) (outs : List Token) (left : Work) : Type 0 where
   e : Expanded
   is : whole w.set 0 before (unhidden new) work ≡ Ok e
   toks : bares e.toks ≡ outs
@@ -439,7 +459,7 @@ woven_length w js os k count of is =
     let parts = length-append (woven (picked w.order (items_of w.order js os)) (gaps_of js os)) (drop (span_of js) os) in
     omega (arith, all, parts, is)
 
-run_goes : (w : World) (c d : Cut) (new run : List Token) (before work : ℕ) (e : Expanded) → whole w.set 0 before (unhidden run) work ≡ Ok e
+run_goes : (w : World) (c d : Cut) (new run : List Token) (before : ℕ) (work : Work) (e : Expanded) → whole w.set 0 before (unhidden run) work ≡ Ok e
     → AreDistinct run → MarksStand c d run (toks_of e.toks) → AllNotes (LineNote w.set.table before d) e.notes → StandFor c new run → AreOf w.n d
     → Ended w before (arranged w.order c new) work (arranged w.order d (bares e.toks)) e.left
 unfolding arranged
@@ -471,7 +491,8 @@ run_goes w (keep (suc k) (list is c)) (keep (suc m) (list js d)) new run before 
     let cost = k2.cost in
     let middle = list_goes w is js us2 run2 low s.x.left s.z k2 of.0 low s.x.left (omega (arith, cost)) in
     let middle_left = middle.left in
-    let work_is : middle.e.left ≡ k2.work2 = omega (arith, cost, middle_left) in
+    let work_left : middle.e.left.left ≡ k2.work2.left = omega (arith, cost, middle_left) in
+    let work_is : middle.e.left ≡ k2.work2 = same_work middle.e.left k2.work2 work_left (middle.counter ∙ sym k2.counter) in
     let woven_of : List Token → List Token = λ l. woven (picked w.order (items_of w.order js l)) (gaps_of js l) in
     let dropped : length (drop (span_of js) (bares s.z.toks)) ≡ length k2.e2.toks =
     ap length (sym (bares_drop (span_of js) s.z.toks) ∙ ap bares (sym k2.toks)) ∙ length-map (toks_of k2.e2.toks) bare ∙ length-map k2.e2.toks (λ (h : Hidden). h.tok) in
@@ -486,7 +507,7 @@ run_goes w (keep (suc k) (list is c)) (keep (suc m) (list js d)) new run before 
     let woven_run : List Token = woven (picked w.order (items_of w.order is us2)) (gaps_of is us2) in
     let last_run : List Token = arranged w.order c us3 in
     let rest_is : whole w.set 0 (low + length middle.e.toks) (unhidden last_run) middle.e.left ≡ Ok rest.e =
-    ap (λ (b : ℕ). whole w.set 0 b (unhidden last_run) middle.e.left) place ∙ ap (λ (l : ℕ). whole w.set 0 k2.before2 (unhidden last_run) l) work_is ∙ rest.is in
+    ap (λ (b : ℕ). whole w.set 0 b (unhidden last_run) middle.e.left) place ∙ ap (λ (l : Work). whole w.set 0 k2.before2 (unhidden last_run) l) work_is ∙ rest.is in
     let inner : Expanded = expanded (middle.e.toks ++ rest.e.toks) (middle.e.notes ++ rest.e.notes) rest.e.left in
     let inner_is : whole w.set 0 low (unhidden (woven_run ++ last_run)) s.x.left ≡ Ok inner =
     ap (λ (hs : List Hidden). whole w.set 0 low hs s.x.left) (map-append (λ (t : Token). hidden t []) woven_run last_run)

@@ -2,8 +2,10 @@
 -- than behind its last one.
 use Rattle.std.proofs.Common.{◌≡◌, ℕ, zero, suc, ◌+◌, ◌-◌, ◌≤◌, Bool, true, false, cond, List, [], ◌∷◌, ◌++◌, length, map, Option, Some, None, Result, Ok, subst, nat_lt, arith}
 use Rattle.std.proofs.lemmas.Option.{none-some}
+use Rattle.cs_base.specs.Limits.{most_bytes}
 use Rattle.cs_base.specs.Token.{Token}
 use Rattle.line_shape.specs.Signs.{is_open}
+use Rattle.macro_body.specs.declared.notes.Work.{Work}
 use Rattle.macro_body.specs.declared.definitions.Form.{Form}
 use Rattle.macro_body.specs.declared.definitions.Form.TheVariants as form
 use Rattle.macro_body.specs.declared.definitions.Definition.{Definition}
@@ -12,9 +14,9 @@ use Rattle.macro_body.specs.Live.{no_macro}
 use Rattle.macro_body.specs.Macro.{is_function}
 use Rattle.macro_body.specs.Bodies.{Part, chains_of, occurs_alone}
 use Rattle.macro_expand.specs.Calls.{Call, call_from, commas_of, arguments_of}
-use Rattle.macro_body.specs.Notes.{Fault, OpenCall, WrongArguments, TooMuchWork, TooDeep, Note, Replaced, Linked, Stringized, Pasted, Expanded, expanded, put_out, noted, onward}
-use Rattle.macro_body.specs.Substitution.{Arguments, Made, made, result_of, cost_of, line_number, path_string}
-use Rattle.macro_expand.specs.Expansion.{Setting, Next, most_depth, one_more, stays, Full, full, with_full, without_full, alone, full_step, full_from, spent, substituted, put_for, links_name, first_notes, replaced, added_by, called_with, called, behind_name, act, macro_of, step, steps, whole}
+use Rattle.macro_body.specs.Notes.{Fault, OpenCall, WrongArguments, TooMuchWork, TooDeep, Note, Counted, Replaced, Linked, Stringized, Pasted, Expanded, expanded, put_out, noted, onward}
+use Rattle.macro_body.specs.Substitution.{Arguments, Made, made, result_of, cost_of, number_token, line_number, path_string}
+use Rattle.macro_expand.specs.Expansion.{Setting, Next, most_depth, one_more, stays, Full, full, with_full, without_full, alone, full_step, full_from, spent, numbered, substituted, put_for, links_name, first_notes, replaced, added_by, called_with, called, behind_name, act, macro_of, step, steps, whole}
 use Rattle.macro_expand.specs.Laws.{put_out_after}
 use Rattle.macro_body.proofs.ResultLemmas.{ok_same, err_ok, onward_ok, cond_ok, cond_ok_yes}
 use Rattle.expansion_laws.proofs.ListLemmas.{AllHidden, AllLists, AllNotes, notes_both}
@@ -38,6 +40,7 @@ rules_making = record {
   moved = λ t h. tt;
   bodies = λ name m here found. any_toks m.body;
   lines = λ name m before here found is brought. tt;
+  numbers = λ name n here low brought. tt;
   paths = λ name m here found is. tt;
   strings = λ name gap toks s here all made. tt;
   pastes = λ name x y z here px py made told. tt;
@@ -45,6 +48,7 @@ rules_making = record {
   linked = λ name m here is found links. tt;
   stringized = λ toks s all made. tt;
   pasted = λ name x y z px py pz made. tt;
+  counted = λ name n here z. tt;
 }
 
 any_hidden : (hs : List Hidden) → AllHidden Any hs
@@ -76,6 +80,7 @@ between_more low high low2 high2 h k (Replaced name m before) b = (omega (arith,
 between_more low high low2 high2 h k (Linked x y) b = tt
 between_more low high low2 high2 h k (Stringized toks s) b = tt
 between_more low high low2 high2 h k (Pasted x y z) b = tt
+between_more low high low2 high2 h k (Counted z) b = tt
 
 pub wider : (low high low2 high2 : ℕ) (notes : List Note) → low2 ≤ low → high ≤ high2 → AllNotes (Between low high) notes → AllNotes (Between low2 high2) notes
 wider low high low2 high2 [] h k all = tt
@@ -87,6 +92,7 @@ making_between low high (Replaced name m before ∷ notes) h = absurd (h.0)
 making_between low high (Linked x y ∷ notes) h = (tt, making_between low high notes h.1)
 making_between low high (Stringized toks s ∷ notes) h = (tt, making_between low high notes h.1)
 making_between low high (Pasted x y z ∷ notes) h = (tt, making_between low high notes h.1)
+making_between low high (Counted z ∷ notes) h = (tt, making_between low high notes h.1)
 
 one_less : (depth before n : ℕ) → put_out_after depth (one_more depth before) n ≤ put_out_after depth before (suc n)
 one_less zero before n = omega arith
@@ -102,19 +108,19 @@ later (suc depth) before n = omega arith
 
 -- an expansion tells so
 unfoldable Tells : Next → Type 0
-Tells f = (depth before : ℕ) (ts : List Hidden) (work : ℕ) (e : Expanded) → f depth before ts work ≡ Ok e
+Tells f = (depth before : ℕ) (ts : List Hidden) (work : Work) (e : Expanded) → f depth before ts work ≡ Ok e
     → AllNotes (Between before (put_out_after depth before (length e.toks))) e.notes
 
 module _ (set : Setting) (f : Next) (tells : Tells f) where
   abbrev Here : ℕ → List Note → Type 0
   Here before notes = AllNotes (Between before before) notes
 
-  next_tells : (depth before : ℕ) (ts : List Hidden) (work : ℕ) (e : Expanded) → f depth before ts work ≡ Ok e
+  next_tells : (depth before : ℕ) (ts : List Hidden) (work : Work) (e : Expanded) → f depth before ts work ≡ Ok e
       → AllNotes (Between before (put_out_after depth before (length e.toks))) e.notes
   unfolding Tells
   next_tells = tells
 
-  stays_tells : (depth before : ℕ) (t : Hidden) (ts : List Hidden) (work : ℕ) (e : Expanded) → stays f depth before t ts work ≡ Ok e
+  stays_tells : (depth before : ℕ) (t : Hidden) (ts : List Hidden) (work : Work) (e : Expanded) → stays f depth before t ts work ≡ Ok e
       → AllNotes (Between before (put_out_after depth before (length e.toks))) e.notes
   stays_tells depth before t ts work e is =
       let i = onward_ok {A = Expanded} (f depth (one_more depth before) ts work) (λ o. Ok (put_out t o)) e is in
@@ -123,8 +129,8 @@ module _ (set : Setting) (f : Next) (tells : Tells f) where
       (wider (one_more depth before) (put_out_after depth (one_more depth before) (length i.0.toks)) before (put_out_after depth before (suc (length i.0.toks)))
       i.0.notes (one_later depth before) (one_less depth before (length i.0.toks)) (next_tells depth (one_more depth before) ts work i.0 i.1))
 
-  full_step_tells : (wanted : Bool) (depth before : ℕ) (name : Token) (a : List Hidden) (work : ℕ) (rest : ℕ → Result Full Fault)
-      → ((left : ℕ) (v : Full) → rest left ≡ Ok v → Here before v.notes)
+  full_step_tells : (wanted : Bool) (depth before : ℕ) (name : Token) (a : List Hidden) (work : Work) (rest : Work → Result Full Fault)
+      → ((left : Work) (v : Full) → rest left ≡ Ok v → Here before v.notes)
       → (v : Full) → full_step wanted f depth before name a work rest ≡ Ok v → Here before v.notes
   full_step_tells false depth before name a work rest behind v is =
       let i = onward_ok {A = Full} (rest work) (λ x. Ok (without_full x)) v is in
@@ -138,7 +144,7 @@ module _ (set : Setting) (f : Next) (tells : Tells f) where
       subst Q (ok_same (with_full i.0 j.0) v j.2)
       (notes_both (Between before before) i.0.notes j.0.notes (next_tells (suc depth) before a work i.0 c.1) (behind i.0.left j.0 j.1))
 
-  full_tells : (depth before : ℕ) (name : Token) (chains : List (List Part)) (i : ℕ) (lists : List (List Hidden)) (work : ℕ) (v : Full)
+  full_tells : (depth before : ℕ) (name : Token) (chains : List (List Part)) (i : ℕ) (lists : List (List Hidden)) (work : Work) (v : Full)
       → full_from f depth before name chains i lists work ≡ Ok v → Here before v.notes
   full_tells depth before name chains i [] work v is =
       let Q : Full → Type 0 = λ x. Here before x.notes in
@@ -147,16 +153,16 @@ module _ (set : Setting) (f : Next) (tells : Tells f) where
       full_step_tells (occurs_alone i chains) depth before name a work (full_from f depth before name chains (suc i) lists)
       (λ left x x_is. full_tells depth before name chains (suc i) lists left x x_is) v is
 
-  spent_tells : (before : ℕ) (name : Token) (cost work : ℕ) (r : Result (Made (List Hidden)) Fault) → ((m : Made (List Hidden)) → r ≡ Ok m → Here before m.notes)
+  spent_tells : (before : ℕ) (name : Token) (cost : ℕ) (work : Work) (r : Result (Made (List Hidden)) Fault) → ((m : Made (List Hidden)) → r ≡ Ok m → Here before m.notes)
       → (e : Expanded) → spent name cost work r ≡ Ok e → Here before e.notes
   spent_tells before name cost work r fine e is =
-      let put : Made (List Hidden) → Result Expanded Fault = λ m. Ok (expanded m.value m.notes (work - cost)) in
-      let c = cond_ok (nat_lt work cost) (TooMuchWork name.at) (onward r put) e is in
+      let put : Made (List Hidden) → Result Expanded Fault = λ m. Ok (expanded m.value m.notes (record work { left = work.left - cost })) in
+      let c = cond_ok (nat_lt work.left cost) (TooMuchWork name.at) (onward r put) e is in
       let i = onward_ok {A = Made (List Hidden)} r put e c.1 in
       let Q : Expanded → Type 0 = λ x. Here before x.notes in
-      subst Q (ok_same (expanded i.0.value i.0.notes (work - cost)) e i.2) (fine i.0 i.1)
+      subst Q (ok_same (expanded i.0.value i.0.notes (record work { left = work.left - cost })) e i.2) (fine i.0 i.1)
 
-  substituted_tells : (depth before : ℕ) (name : Token) (m : Definition) (raw : List (List Hidden)) (work : ℕ) (e : Expanded)
+  substituted_tells : (depth before : ℕ) (name : Token) (m : Definition) (raw : List (List Hidden)) (work : Work) (e : Expanded)
       → substituted f depth before name m raw work ≡ Ok e → Here before e.notes
   substituted_tells depth before name m raw work e is =
       let args : List (List Hidden) → Arguments = λ lists. record { raw = raw; full = lists } in
@@ -175,12 +181,21 @@ module _ (set : Setting) (f : Next) (tells : Tells f) where
       let Q : Made (List Hidden) → Type 0 = λ x. Here before x.notes in
       subst Q (ok_same (made (hidden t [] ∷ []) []) m e) tt
 
-  put_for_tells : (kind : Form) (depth before : ℕ) (name : Token) (m : Definition) (raw : List (List Hidden)) (work : ℕ) (e : Expanded)
+  one_number : (before : ℕ) (t : Token) (m : Made (List Hidden)) → ◌≡◌ {A = Result (Made (List Hidden)) Fault} (Ok (made (hidden t [] ∷ []) (Counted t ∷ []))) (Ok m)
+      → Here before m.notes
+  one_number before t m e =
+      let Q : Made (List Hidden) → Type 0 = λ x. Here before x.notes in
+      subst Q (ok_same (made (hidden t [] ∷ []) (Counted t ∷ [])) m e) (tt, tt)
+
+  put_for_tells : (kind : Form) (depth before : ℕ) (name : Token) (m : Definition) (raw : List (List Hidden)) (work : Work) (e : Expanded)
       → put_for kind set.path f depth before name m raw work ≡ Ok e → Here before e.notes
   put_for_tells form.Line depth before name m raw work e is =
       spent_tells before name 1 work (Ok (made (hidden (line_number name) [] ∷ []) [])) (no_notes before (line_number name)) e is
   put_for_tells form.File depth before name m raw work e is =
       spent_tells before name 1 work (Ok (made (hidden (path_string set.path name) [] ∷ []) [])) (no_notes before (path_string set.path name)) e is
+  put_for_tells form.Counter depth before name m raw work e is =
+      let c = cond_ok_yes (nat_lt work.counter most_bytes) (TooMuchWork name.at) (numbered name work) e is in
+      spent_tells before name 1 (record work { counter = work.counter + 1 }) _ (one_number before (number_token name work.counter)) e c.1
   put_for_tells form.Object depth before name m raw work e is = substituted_tells depth before name m raw work e is
   put_for_tells form.Function depth before name m raw work e is = substituted_tells depth before name m raw work e is
 
@@ -190,7 +205,7 @@ module _ (set : Setting) (f : Next) (tells : Tells f) where
   first_tells true name m before = ((omega arith, omega arith), (tt, tt))
   first_tells false name m before = ((omega arith, omega arith), tt)
 
-  replaced_tells : (depth before : ℕ) (name : Token) (m : Definition) (added : List (List ℕ)) (raw : List (List Hidden)) (ts : List Hidden) (work : ℕ) (e : Expanded)
+  replaced_tells : (depth before : ℕ) (name : Token) (m : Definition) (added : List (List ℕ)) (raw : List (List Hidden)) (ts : List Hidden) (work : Work) (e : Expanded)
       → replaced set f depth before name m added raw ts work ≡ Ok e → AllNotes (Between before (put_out_after depth before (length e.toks))) e.notes
   replaced_tells depth before name m added raw ts work e is =
       let after : Expanded → Result Expanded Fault = λ x. onward (f depth before (map (hide_more added) x.toks ++ ts) x.left) (λ rest. Ok (noted (first_notes name m before ++ x.notes) rest)) in
@@ -206,7 +221,7 @@ module _ (set : Setting) (f : Next) (tells : Tells f) where
       (wider before before before high (first_notes name m before ++ i.0.notes) (omega arith) (later depth before (length j.0.toks)) own)
       (next_tells depth before list i.0.left j.0 j.1))
 
-  called_tells : (depth before : ℕ) (t : Hidden) (m : Definition) (work : ℕ) (call : Option Call) (e : Expanded)
+  called_tells : (depth before : ℕ) (t : Hidden) (m : Definition) (work : Work) (call : Option Call) (e : Expanded)
       → called set f depth before t m work call ≡ Ok e → AllNotes (Between before (put_out_after depth before (length e.toks))) e.notes
   called_tells depth before t m work None e is = err_ok (OpenCall t.tok.at) e is
   called_tells depth before t m work (Some call) e is = by (arguments_of m call.arguments) is
@@ -215,7 +230,7 @@ module _ (set : Setting) (f : Next) (tells : Tells f) where
       by None k = err_ok (WrongArguments t.tok.at) e k
       by (Some raw) k = replaced_tells depth before t.tok m (added_by t call.close) raw call.rest work e k
 
-  act_tells : (depth before : ℕ) (t : Hidden) (ts : List Hidden) (work : ℕ) (e : Expanded) (m : Option Definition)
+  act_tells : (depth before : ℕ) (t : Hidden) (ts : List Hidden) (work : Work) (e : Expanded) (m : Option Definition)
       → act set f depth before t ts work m ≡ Ok e → AllNotes (Between before (put_out_after depth before (length e.toks))) e.notes
   act_tells depth before t ts work e None is = stays_tells depth before t ts work e is
   act_tells depth before t ts work e (Some m) is = by (is_function m.form) is
@@ -234,7 +249,7 @@ module _ (set : Setting) (f : Next) (tells : Tells f) where
       by true k = in_call ts k
       by false k = replaced_tells depth before t.tok m (t.hides ++ t.tok.text ∷ []) [] ts work e k
 
-  step_tells : (depth before : ℕ) (ts : List Hidden) (work : ℕ) (e : Expanded) → step set f depth before ts work ≡ Ok e
+  step_tells : (depth before : ℕ) (ts : List Hidden) (work : Work) (e : Expanded) → step set f depth before ts work ≡ Ok e
       → AllNotes (Between before (put_out_after depth before (length e.toks))) e.notes
   step_tells depth before [] work e is =
       let Q : Expanded → Type 0 = λ x. AllNotes (Between before (put_out_after depth before (length x.toks))) x.notes in
@@ -253,10 +268,10 @@ steps_keep set zero = λ depth before ts work e is.
 steps_keep set (suc n) = step_keeps set (steps n set) (steps_keep set n)
 
 -- an expansion outside of arguments tells of replacements within its tokens
-pub told_between : (set : Setting) (before : ℕ) (ts : List Hidden) (work : ℕ) (e : Expanded) → whole set 0 before ts work ≡ Ok e
+pub told_between : (set : Setting) (before : ℕ) (ts : List Hidden) (work : Work) (e : Expanded) → whole set 0 before ts work ≡ Ok e
     → AllNotes (Between before (before + length e.toks)) e.notes
 unfolding whole Tells
 told_between set before ts work e is =
-    let keeps : (depth before : ℕ) (ts2 : List Hidden) (work2 : ℕ) (e : Expanded) → steps (suc (work + length ts)) set depth before ts2 work2 ≡ Ok e
-    → AllNotes (Between before (put_out_after depth before (length e.toks))) e.notes = steps_keep set (suc (work + length ts)) in
+    let keeps : (depth before : ℕ) (ts2 : List Hidden) (work2 : Work) (e : Expanded) → steps (suc (work.left + length ts)) set depth before ts2 work2 ≡ Ok e
+    → AllNotes (Between before (put_out_after depth before (length e.toks))) e.notes = steps_keep set (suc (work.left + length ts)) in
     keeps 0 before ts work e is

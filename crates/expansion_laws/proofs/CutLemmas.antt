@@ -5,6 +5,7 @@ use Rattle.std.proofs.lemmas.List.{length-map, map-append, take-map, drop-map, d
 use Rattle.cs_base.specs.Token.{Token}
 use Rattle.cs_base.proofs.ListLemmas.{drop_at}
 use Rattle.line_shape.specs.Signs.{is_open, is_close, is_comma}
+use Rattle.macro_body.specs.declared.notes.Work.{Work}
 use Rattle.macro_body.specs.Hides.{Hidden, toks_of, unhidden}
 use Rattle.macro_body.specs.Notes.{Expanded, put_out}
 use Rattle.macro_expand.specs.Expansion.{Setting, whole, expansion}
@@ -22,7 +23,7 @@ record PartedAt (set : Setting) (run : List Hidden) (e : Expanded) (sign : Token
   z : Expanded
   mark : IsMark sign (toks_of run) (toks_of e.toks) (length xs) m
   before : ℕ
-  work : ℕ
+  work : Work
   before2 : ℕ
   before3 : ℕ
   first : whole set 0 before xs work ≡ Ok x
@@ -35,7 +36,7 @@ record PartedAt (set : Setting) (run : List Hidden) (e : Expanded) (sign : Token
   z_toks : drop (suc m) (toks_of e.toks) ≡ toks_of z.toks
   t_toks : drop m (toks_of e.toks) ≡ toks_of (t ∷ z.toks)
 
-parted_at : (set : Setting) (before : ℕ) (run : List Hidden) (work : ℕ) (e : Expanded) (sign : Token → Bool) (m : ℕ) → IsSign sign (toks_of e.toks) m
+parted_at : (set : Setting) (before : ℕ) (run : List Hidden) (work : Work) (e : Expanded) (sign : Token → Bool) (m : ℕ) → IsSign sign (toks_of e.toks) m
     → whole set 0 before run work ≡ Ok e → PartedAt set run e sign m
 parted_at set before run work e sign m mk is =
     let at = hidden_at e.toks m mk.mark mk.has in
@@ -84,7 +85,7 @@ record HasItems (set : Setting) (js : Items) (run : List Hidden) (e : Expanded) 
   count : count_of is ≡ count_of js
   of : (n : ℕ) → AreItemsOf n js → AreItemsOf n is
   before2 : ℕ
-  work2 : ℕ
+  work2 : Work
   ts2 : List Hidden
   e2 : Expanded
   rest : whole set 0 before2 ts2 work2 ≡ Ok e2
@@ -127,7 +128,7 @@ has_more set m d gap m2 d2 gap2 more run e n c stand one mark of ys z run2 out2 
 mutual
   unfolding span_of count_of
 
-  has_cut : (set : Setting) (d : Cut) (before : ℕ) (run : List Hidden) (work : ℕ) (e : Expanded) → whole set 0 before run work ≡ Ok e → SignsStand d (toks_of e.toks) → HasCut d run e
+  has_cut : (set : Setting) (d : Cut) (before : ℕ) (run : List Hidden) (work : Work) (e : Expanded) → whole set 0 before run work ≡ Ok e → SignsStand d (toks_of e.toks) → HasCut d run e
   has_cut set done before run work e is signs = record { c = done; stand = tt; of = λ n h. tt }
   has_cut set (keep (suc m) (list js d)) before run work e is signs =
       let s = parted_at set before run work e is_open m signs.0 is in
@@ -149,7 +150,7 @@ mutual
       }
   has_cut set d before run work e is signs = absurd signs
 
-  has_items : (set : Setting) (js : Items) (before : ℕ) (run : List Hidden) (work : ℕ) (e : Expanded) → whole set 0 before run work ≡ Ok e → 0 < count_of js → ItemsSigned js (toks_of e.toks)
+  has_items : (set : Setting) (js : Items) (before : ℕ) (run : List Hidden) (work : Work) (e : Expanded) → whole set 0 before run work ≡ Ok e → 0 < count_of js → ItemsSigned js (toks_of e.toks)
       → HasItems set js run e
   has_items set ended before run work e is some signs = absurd (omega (arith, some))
   has_items set (item m d gap ended) before run work e is some signs =

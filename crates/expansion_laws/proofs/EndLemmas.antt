@@ -5,6 +5,7 @@ use Rattle.std.proofs.lemmas.Bool.{cases_Bool}
 use Rattle.std.proofs.lemmas.Option.{none-some, same_Some}
 use Rattle.cs_base.specs.Token.{Token}
 use Rattle.line_shape.specs.Signs.{is_name, is_open, is_close, is_comma}
+use Rattle.macro_body.specs.declared.notes.Work.{Work}
 use Rattle.macro_body.specs.declared.definitions.Definition.{Definition}
 use Rattle.macro_body.specs.Hides.{Hidden, hidden, hide_more, unhidden, toks_of}
 use Rattle.macro_body.specs.Macro.{is_function}
@@ -20,7 +21,7 @@ use Rattle.expansion_laws.specs.Ends.{FirstStays, LastStays, FirstPasses, LastPa
 
 -- ---- no macro replaces a token that is no name
 
-token_stays : (set : Setting) (depth before : ℕ) (t : Hidden) (ts : List Hidden) (work : ℕ) → is_name t.tok ≡ false
+token_stays : (set : Setting) (depth before : ℕ) (t : Hidden) (ts : List Hidden) (work : Work) → is_name t.tok ≡ false
     → whole set depth before (t ∷ ts) work ≡ stays (whole set) depth before t ts work
 token_stays set depth before t ts work h = whole_is_step set depth before (t ∷ ts) work ∙ ap (act set (whole set) depth before t ts work) (no_macro set.table t h)
 
@@ -104,10 +105,10 @@ call_ends t no_close (u ∷ v ∷ ts) commas level call ends e =
 
 -- so it is with fewer than b tokens and steps of work together
 unfoldable LastBelow : Setting → Hidden → ℕ → Type 0
-LastBelow set t b = (depth before : ℕ) (ts : List Hidden) (work : ℕ) (e : Expanded) → work + length ts < b → EndsWith t ts → whole set depth before ts work ≡ Ok e → EndsWith t e.toks
+LastBelow set t b = (depth before : ℕ) (ts : List Hidden) (work : Work) (e : Expanded) → work.left + length ts < b → EndsWith t ts → whole set depth before ts work ≡ Ok e → EndsWith t e.toks
 
 -- one token less
-last_stays_on : (set : Setting) (t : Hidden) (b : ℕ) → LastBelow set t b → (depth before : ℕ) (u : Hidden) (ts : List Hidden) (work : ℕ) (e : Expanded) → work + length ts < b
+last_stays_on : (set : Setting) (t : Hidden) (b : ℕ) → LastBelow set t b → (depth before : ℕ) (u : Hidden) (ts : List Hidden) (work : Work) (e : Expanded) → work.left + length ts < b
     → EndsWith t (u ∷ ts) → stays (whole set) depth before u ts work ≡ Ok e → EndsWith t e.toks
 unfolding LastBelow
 last_stays_on set t b below depth before u [] work e h ends is =
@@ -127,7 +128,7 @@ after next depth before name m added ts e =
     onward (next depth before (map (hide_more added) e.toks ++ ts) e.left) (λ rest. Ok (noted (first_notes name m before ++ e.notes) rest))
 
 replaced_ends : (set : Setting) (t : Hidden) (b : ℕ) → LastBelow set t b → (depth before : ℕ) (name : Token) (m : Definition) (added : List (List ℕ)) (n : ℕ)
-    → (raw : List (List Hidden)) → AllWithin n raw → (ts : List Hidden) (work : ℕ) (e : Expanded) → work + n < b → work + length ts < b → EndsWith t ts
+    → (raw : List (List Hidden)) → AllWithin n raw → (ts : List Hidden) (work : Work) (e : Expanded) → work.left + n < b → work.left + length ts < b → EndsWith t ts
     → replaced set (whole set) depth before name m added raw ts work ≡ Ok e → EndsWith t e.toks
 unfolding LastBelow
 replaced_ends set t b below depth before name m added n raw within ts work e h h2 ends is =
@@ -136,11 +137,11 @@ replaced_ends set t b below depth before name m added n raw within ts work e h h
     let notes : List Note = first_notes name m before ++ i.0.notes in
     let j = onward_ok {A = Expanded} (whole set depth before (put ++ ts) i.0.left) (λ rest. Ok (noted notes rest)) e i.2 in
     let puts = (put_for_puts b (whole set) (whole set) (whole_below_itself set b) m.form set.path depth before name m n raw within work h).falls i.0 i.1 in
-    let room : i.0.left + length (put ++ ts) < b = omega (arith, length-append put ts, length-map i.0.toks (hide_more added)) in
+    let room : i.0.left.left + length (put ++ ts) < b = omega (arith, length-append put ts, length-map i.0.toks (hide_more added)) in
     let rest = below depth before (put ++ ts) i.0.left j.0 room (ends_behind t put ts ends) j.1 in
     subst (EndsWith t) (ap (λ (x : Expanded). x.toks) (ok_same (noted notes j.0) e j.2)) rest
 
-called_with_ends : (set : Setting) (t : Hidden) (b : ℕ) → LastBelow set t b → (depth before : ℕ) (u : Hidden) (m : Definition) (call : Call) (n work : ℕ) → Shorter n call → work + n < b
+called_with_ends : (set : Setting) (t : Hidden) (b : ℕ) → LastBelow set t b → (depth before : ℕ) (u : Hidden) (m : Definition) (call : Call) (n : ℕ) (work : Work) → Shorter n call → work.left + n < b
     → EndsWith t call.rest → (raw : Option (List (List Hidden))) → arguments_of m call.arguments ≡ raw → (e : Expanded) → called_with set (whole set) depth before u m call work raw ≡ Ok e
     → EndsWith t e.toks
 called_with_ends set t b below depth before u m call n work short h ends None args_are e is = err_ok (WrongArguments u.tok.at) e is
@@ -148,7 +149,7 @@ called_with_ends set t b below depth before u m call n work short h ends (Some r
     let behind = short.behind in
     replaced_ends set t b below depth before u.tok m (added_by u call.close) n raw (arguments_within m n call.arguments raw short.each args_are) call.rest work e h (omega arith) ends is
 
-called_ends : (set : Setting) (t : Hidden) (b : ℕ) → is_close t.tok ≡ false → LastBelow set t b → (depth before : ℕ) (u : Hidden) (m : Definition) (ts : List Hidden) (work : ℕ) → work + length ts < b
+called_ends : (set : Setting) (t : Hidden) (b : ℕ) → is_close t.tok ≡ false → LastBelow set t b → (depth before : ℕ) (u : Hidden) (m : Definition) (ts : List Hidden) (work : Work) → work.left + length ts < b
     → EndsWith t ts → (call : Option Call) → call_from ts (commas_of m) 0 ≡ call → (e : Expanded) → called set (whole set) depth before u m work call ≡ Ok e → EndsWith t e.toks
 called_ends set t b no_close below depth before u m ts work h ends None call_is e is = err_ok (OpenCall u.tok.at) e is
 called_ends set t b no_close below depth before u m ts work h ends (Some call) call_is e is =
@@ -156,12 +157,12 @@ called_ends set t b no_close below depth before u m ts work h ends (Some call) c
     (arguments_of m call.arguments) refl e is
 
 -- nothing is called behind the last token
-no_call : (set : Setting) (depth before : ℕ) (u : Hidden) (m : Definition) (work : ℕ) (e : Expanded) → called set (whole set) depth before u m work (call_from [] (commas_of m) 0) ≡ Ok e → ⊥
+no_call : (set : Setting) (depth before : ℕ) (u : Hidden) (m : Definition) (work : Work) (e : Expanded) → called set (whole set) depth before u m work (call_from [] (commas_of m) 0) ≡ Ok e → ⊥
 unfolding call_from
 no_call set depth before u m work e is = err_ok (OpenCall u.tok.at) e is
 
-behind_ends : (set : Setting) (t : Hidden) (b : ℕ) → is_close t.tok ≡ false → LastBelow set t b → (depth before : ℕ) (u : Hidden) (m : Definition) (ts : List Hidden) (work : ℕ) (e : Expanded)
-    → work + length ts < b → EndsWith t (u ∷ ts) → behind_name set (whole set) depth before u m ts work ≡ Ok e → EndsWith t e.toks
+behind_ends : (set : Setting) (t : Hidden) (b : ℕ) → is_close t.tok ≡ false → LastBelow set t b → (depth before : ℕ) (u : Hidden) (m : Definition) (ts : List Hidden) (work : Work) (e : Expanded)
+    → work.left + length ts < b → EndsWith t (u ∷ ts) → behind_name set (whole set) depth before u m ts work ≡ Ok e → EndsWith t e.toks
 behind_ends set t b no_close below depth before u m [] work e h ends is = last_stays_on set t b below depth before u [] work e h ends is
 behind_ends set t b no_close below depth before u m (p ∷ []) work e h ends is = elim (cases_Bool (is_open p.tok)) [
   | inl opens ↦ absurd (no_call set depth before u m work e (rw opens at is))
@@ -174,15 +175,15 @@ behind_ends set t b no_close below depth before u m (p ∷ q ∷ ts) work e h en
   | inr shut ↦ last_stays_on set t b below depth before u (p ∷ q ∷ ts) work e h ends (rw shut at is)
 ]
 
-act_ends : (set : Setting) (t : Hidden) (b : ℕ) → is_name t.tok ≡ false → is_close t.tok ≡ false → LastBelow set t b → (depth before : ℕ) (u : Hidden) (ts : List Hidden) (work : ℕ) (e : Expanded)
-    → work + length ts < b → EndsWith t (u ∷ ts) → (m : Option Definition) → macro_of set.table u ≡ m → act set (whole set) depth before u ts work m ≡ Ok e → EndsWith t e.toks
+act_ends : (set : Setting) (t : Hidden) (b : ℕ) → is_name t.tok ≡ false → is_close t.tok ≡ false → LastBelow set t b → (depth before : ℕ) (u : Hidden) (ts : List Hidden) (work : Work) (e : Expanded)
+    → work.left + length ts < b → EndsWith t (u ∷ ts) → (m : Option Definition) → macro_of set.table u ≡ m → act set (whole set) depth before u ts work m ≡ Ok e → EndsWith t e.toks
 act_ends set t b no_name no_close below depth before u ts work e h ends None is_m is = last_stays_on set t b below depth before u ts work e h ends is
 act_ends set t b no_name no_close below depth before u ts work e h ends (Some m) is_m is = elim (cases_Bool (is_function m.form)) [
   | inl fn ↦ behind_ends set t b no_close below depth before u m ts work e h ends (rw fn at is)
   | inr object ↦ object_ends ts h ends (rw object at is)
 ]
   where
-    object_ends : (ts : List Hidden) → work + length ts < b → EndsWith t (u ∷ ts)
+    object_ends : (ts : List Hidden) → work.left + length ts < b → EndsWith t (u ∷ ts)
         → replaced set (whole set) depth before u.tok m (u.hides ++ u.tok.text ∷ []) [] ts work ≡ Ok e → EndsWith t e.toks
     object_ends [] h ends is =
         let one = ends_one t u ends.0 ends.1 in
@@ -194,8 +195,8 @@ act_ends set t b no_name no_close below depth before u ts work e h ends (Some m)
 nothing_ends : (t : Hidden) (zs : List Hidden) → [] ≡ zs ++ t ∷ [] → ⊥
 nothing_ends t zs e = let n = ap length e ∙ length-append zs (t ∷ []) in absurd (omega (arith, n))
 
-step_last : (set : Setting) (t : Hidden) (b : ℕ) → is_name t.tok ≡ false → is_close t.tok ≡ false → LastBelow set t b → (depth before : ℕ) (ts : List Hidden) (work : ℕ) (e : Expanded)
-    → work + length ts < suc b → EndsWith t ts → whole set depth before ts work ≡ Ok e → EndsWith t e.toks
+step_last : (set : Setting) (t : Hidden) (b : ℕ) → is_name t.tok ≡ false → is_close t.tok ≡ false → LastBelow set t b → (depth before : ℕ) (ts : List Hidden) (work : Work) (e : Expanded)
+    → work.left + length ts < suc b → EndsWith t ts → whole set depth before ts work ≡ Ok e → EndsWith t e.toks
 step_last set t b no_name no_close below depth before [] work e h ends is = absurd (nothing_ends t ends.0 ends.1)
 step_last set t b no_name no_close below depth before (u ∷ ts) work e h ends is =
     act_ends set t b no_name no_close below depth before u ts work e (omega arith) ends (macro_of set.table u) refl (sym (whole_is_step set depth before (u ∷ ts) work) ∙ is)
@@ -210,8 +211,8 @@ pub last_stays : LastStays
 unfolding LastBelow
 last_stays = λ set depth before xs t work e no_name no_close is.
     let ts = xs ++ t ∷ [] in
-    let below : (depth before : ℕ) (zs : List Hidden) (work2 : ℕ) (e : Expanded) → work2 + length zs < suc (work + length ts) → EndsWith t zs
-    → whole set depth before zs work2 ≡ Ok e → EndsWith t e.toks = last_below set t no_name no_close (suc (work + length ts)) in
+    let below : (depth before : ℕ) (zs : List Hidden) (work2 : Work) (e : Expanded) → work2.left + length zs < suc (work.left + length ts) → EndsWith t zs
+    → whole set depth before zs work2 ≡ Ok e → EndsWith t e.toks = last_below set t no_name no_close (suc (work.left + length ts)) in
     below depth before ts work e (omega arith) (xs, refl) is
 
 -- ---- by tests of tokens
@@ -231,14 +232,14 @@ last_there (u ∷ us) t =
     let less : suc (length (us ++ t ∷ [])) - 1 ≡ suc (length (us ++ t ∷ []) - 1) = omega (arith, long) in
     ap (slice_get (u ∷ (us ++ t ∷ []))) less ∙ last_there us t
 
-ends_some : (set : Setting) (depth before : ℕ) (ts : List Token) (work : ℕ) (x : Expanded) → whole set depth before (unhidden ts) work ≡ Ok x → 0 < length (toks_of x.toks) → 0 < length ts
+ends_some : (set : Setting) (depth before : ℕ) (ts : List Token) (work : Work) (x : Expanded) → whole set depth before (unhidden ts) work ≡ Ok x → 0 < length (toks_of x.toks) → 0 < length ts
 ends_some set depth before [] work x is some =
     let none_out : expanded [] [] work ≡ x = ok_same (expanded [] [] work) x (sym (whole_is_step set depth before [] work) ∙ is) in
     let zero = ap (λ (v : Expanded). length (toks_of v.toks)) none_out in
     absurd (omega (arith, some, zero))
 ends_some set depth before (t ∷ ts) work x is some = omega arith
 
-ends_first : (set : Setting) (depth before : ℕ) (ts : List Token) (work : ℕ) (x : Expanded) → whole set depth before (unhidden ts) work ≡ Ok x
+ends_first : (set : Setting) (depth before : ℕ) (ts : List Token) (work : Work) (x : Expanded) → whole set depth before (unhidden ts) work ≡ Ok x
     → (q : Token → Bool) → NamesPass q → FirstPasses q (toks_of x.toks) → FirstPasses q ts
 ends_first set depth before [] work x is q names out t there = absurd cc
 ends_first set depth before (u ∷ ts) work x is q names out t there =
@@ -250,7 +251,7 @@ ends_first set depth before (u ∷ ts) work x is q names out t there =
           ap q (sym same) ∙ out u (ap (λ (l : List Hidden). slice_get (toks_of l) 0) r.1)
     ]
 
-ends_last : (set : Setting) (depth before : ℕ) (ts : List Token) (work : ℕ) (x : Expanded) → whole set depth before (unhidden ts) work ≡ Ok x
+ends_last : (set : Setting) (depth before : ℕ) (ts : List Token) (work : Work) (x : Expanded) → whole set depth before (unhidden ts) work ≡ Ok x
     → (q : Token → Bool) → NamesPass q → ClosesPass q → LastPasses q (toks_of x.toks) → LastPasses q ts
 ends_last set depth before ts work x is q names closes out t there = elim (cases_Bool (is_name t)) [
   | inl name ↦ names t name

@@ -3,6 +3,7 @@ use Rattle.std.proofs.Common.{◌≡◌, ℕ, zero, suc, ◌+◌, ◌<◌, ◌�
 use Rattle.std.specs.Option.{option_map}
 use Rattle.std.proofs.lemmas.List.{map-append, length-map}
 use Rattle.cs_base.specs.Token.{Token}
+use Rattle.macro_body.specs.declared.notes.Work.{Work}
 use Rattle.macro_body.specs.declared.definitions.Definition.{Definition}
 use Rattle.line_shape.specs.Signs.{is_open}
 use Rattle.macro_body.specs.Hides.{Hidden, hidden, hide_more, in_both, unhidden}
@@ -52,7 +53,7 @@ after next depth before name m added ts e =
 -- A replacement.
 replaced_follows : (w : World) (b : ℕ) (f g : Next) → Below b f f → Follows w b f g → (path : List ℕ) (depth before : ℕ) (name : Token) (m : Definition) (d : List ℕ)
     → w.old d ≡ Some m → (added : List (List ℕ)) → AllDefined w.old added → (n : ℕ) (raw : List (List Hidden)) → AllWithin n raw → GoodLists w raw → (ts : List Hidden) → Good w ts
-    → (work : ℕ) → work + n < b → work + length ts < b → (e : Expanded)
+    → (work : Work) → work.left + n < b → work.left + length ts < b → (e : Expanded)
     → replaced (old_setting w path) f depth before name m added raw ts work ≡ Ok e → AllRespected w.o w.r e.notes
     → Followed w e (replaced (new_setting w path) g depth before (renamed w.r name) (renamed_macro w.r m) (map w.r.macro_name added) (renamed_lists w.r raw) (map (renamed_hidden w.r) ts) work)
 unfolding Follows
@@ -69,7 +70,7 @@ replaced_follows w b f g below follows path depth before name m d is_m added def
     let second = respected_split w (first_notes name m before) i.0.notes first.0 in
     let k = put_for_follows w b f g below follows m.form path depth before name m n (w.keeps.body d m is_m) raw within good work h i.0 i.1 second.1 in
     let puts = (put_for_puts b f f below m.form path depth before name m n raw within work h).falls i.0 i.1 in
-    let room : i.0.left + length (map (hide_more added) i.0.toks ++ ts) < b = omega (arith, length-append (map (hide_more added) i.0.toks) ts, length-map i.0.toks (hide_more added)) in
+    let room : i.0.left.left + length (map (hide_more added) i.0.toks ++ ts) < b = omega (arith, length-append (map (hide_more added) i.0.toks) ts, length-map i.0.toks (hide_more added)) in
     let good_all : Good w (map (hide_more added) i.0.toks ++ ts) = Good-append w (map (hide_more added) i.0.toks) ts (Good-hide_more w added i.0.toks defined k.1) good_ts in
     let l = follows depth before (map (hide_more added) i.0.toks ++ ts) i.0.left j.0 room good_all j.1 first.1 in
     let list_is : map (hide_more added2) (map (renamed_hidden w.r) i.0.toks) ++ ts2 ≡ map (renamed_hidden w.r) (map (hide_more added) i.0.toks ++ ts) =
@@ -87,7 +88,7 @@ replaced_follows w b f g below follows path depth before name m d is_m added def
     resp
 
 -- a replaced name has the new spelling of its macro's name
-replaced_name : (w : World) (set : Setting) (f : Next) (depth before : ℕ) (name : Token) (m : Definition) (added : List (List ℕ)) (raw : List (List Hidden)) (ts : List Hidden) (work : ℕ) (e : Expanded)
+replaced_name : (w : World) (set : Setting) (f : Next) (depth before : ℕ) (name : Token) (m : Definition) (added : List (List ℕ)) (raw : List (List Hidden)) (ts : List Hidden) (work : Work) (e : Expanded)
     → replaced set f depth before name m added raw ts work ≡ Ok e → AllRespected w.o w.r e.notes → spelled w.r name ≡ w.r.macro_name name.text
 replaced_name w set f depth before name m added raw ts work e is resp =
     let i = onward_ok {A = Expanded} (put_for m.form set.path f depth before name m raw work) (after f depth before name m added ts) e is in
@@ -109,7 +110,7 @@ abbrev CallFollowed : World → Hidden → Expanded → Result Expanded Fault �
 CallFollowed w t e res = (spelled w.r t.tok ≡ w.r.macro_name t.tok.text) × Followed w e res
 
 called_with_follows : (w : World) (b : ℕ) (f g : Next) → Below b f f → Follows w b f g → (path : List ℕ) (depth before : ℕ) (t : Hidden) (m : Definition)
-    → AllDefined w.old t.hides → w.old t.tok.text ≡ Some m → (call : Call) (n work : ℕ) → Shorter n call → GoodCall w call → work + n < b
+    → AllDefined w.old t.hides → w.old t.tok.text ≡ Some m → (call : Call) (n : ℕ) (work : Work) → Shorter n call → GoodCall w call → work.left + n < b
     → (raw : Option (List (List Hidden))) → arguments_of m call.arguments ≡ raw → (e : Expanded)
     → called_with (old_setting w path) f depth before t m call work raw ≡ Ok e → AllRespected w.o w.r e.notes
     → CallFollowed w t e (called_with (new_setting w path) g depth before (renamed_hidden w.r t) (renamed_macro w.r m) (renamed_call w.r call) work (option_map (renamed_lists w.r) raw))
@@ -129,7 +130,7 @@ called_with_follows w b f g below follows path depth before t m hides is_m call 
     )
 
 called_follows : (w : World) (b : ℕ) (f g : Next) → Below b f f → Follows w b f g → (path : List ℕ) (depth before : ℕ) (t : Hidden) (m : Definition)
-    → AllDefined w.old t.hides → w.old t.tok.text ≡ Some m → (ts : List Hidden) (work : ℕ) → Good w ts → work + length ts < b
+    → AllDefined w.old t.hides → w.old t.tok.text ≡ Some m → (ts : List Hidden) (work : Work) → Good w ts → work.left + length ts < b
     → (call : Option Call) → call_from ts (commas_of m) 0 ≡ call → (e : Expanded)
     → called (old_setting w path) f depth before t m work call ≡ Ok e → AllRespected w.o w.r e.notes
     → CallFollowed w t e (called (new_setting w path) g depth before (renamed_hidden w.r t) (renamed_macro w.r m) work (option_map (renamed_call w.r) call))
@@ -149,7 +150,7 @@ call_is-renamed w m ts good =
 -- The first token.
 
 -- the token stays in the new expansion, whatever its name is there
-stays_anew : (w : World) (g : Next) (path : List ℕ) (depth before : ℕ) (t : Hidden) (m : Definition) (ts : List Hidden) (work : ℕ)
+stays_anew : (w : World) (g : Next) (path : List ℕ) (depth before : ℕ) (t : Hidden) (m : Definition) (ts : List Hidden) (work : Work)
     → (macro_of w.new (renamed_hidden w.r t) ≡ None) ⊎ (macro_of w.new (renamed_hidden w.r t) ≡ Some (renamed_macro w.r m))
     → act (new_setting w path) g depth before (renamed_hidden w.r t) (map (renamed_hidden w.r) ts) work (Some (renamed_macro w.r m)) ≡ stays g depth before (renamed_hidden w.r t) (map (renamed_hidden w.r) ts) work
     → act (new_setting w path) g depth before (renamed_hidden w.r t) (map (renamed_hidden w.r) ts) work (macro_of w.new (renamed_hidden w.r t)) ≡ stays g depth before (renamed_hidden w.r t) (map (renamed_hidden w.r) ts) work
@@ -157,8 +158,8 @@ stays_anew w g path depth before t m ts work (inl e) is = ap (act (new_setting w
 stays_anew w g path depth before t m ts work (inr e) is = ap (act (new_setting w path) g depth before (renamed_hidden w.r t) (map (renamed_hidden w.r) ts) work) e ∙ is
 
 -- a function-like macro's name with tokens behind it
-function_follows : (w : World) (b : ℕ) (f g : Next) → Below b f f → Follows w b f g → (path : List ℕ) (depth before : ℕ) (t p : Hidden) (ts : List Hidden) (work : ℕ) (m : Definition)
-    → is_function m.form ≡ true → Good w (t ∷ p ∷ ts) → macro_of w.old t ≡ Some m → work + length (p ∷ ts) < b → (e : Expanded) → (opens : Bool) → is_open p.tok ≡ opens
+function_follows : (w : World) (b : ℕ) (f g : Next) → Below b f f → Follows w b f g → (path : List ℕ) (depth before : ℕ) (t p : Hidden) (ts : List Hidden) (work : Work) (m : Definition)
+    → is_function m.form ≡ true → Good w (t ∷ p ∷ ts) → macro_of w.old t ≡ Some m → work.left + length (p ∷ ts) < b → (e : Expanded) → (opens : Bool) → is_open p.tok ≡ opens
     → cond opens (called (old_setting w path) f depth before t m work (call_from ts (commas_of m) 0)) (stays f depth before t (p ∷ ts) work) ≡ Ok e → AllRespected w.o w.r e.notes
     → Followed w e (act (new_setting w path) g depth before (renamed_hidden w.r t) (map (renamed_hidden w.r) (p ∷ ts)) work (macro_of w.new (renamed_hidden w.r t)))
 unfolding is_open
@@ -183,8 +184,8 @@ function_follows w b f g below follows path depth before t p ts work m fn good i
     (stays_anew w g path depth before t m (p ∷ ts) work (macro_either w t m good.0 good.1 is_m) stays_there ∙ k.0, k.1)
 
 -- a macro's name, function-like or not
-named_follows : (w : World) (b : ℕ) (f g : Next) → Below b f f → Follows w b f g → (path : List ℕ) (depth before : ℕ) (t : Hidden) (ts : List Hidden) (work : ℕ) (m : Definition)
-    → Good w (t ∷ ts) → macro_of w.old t ≡ Some m → work + length ts < b → (e : Expanded) → (fn : Bool) → is_function m.form ≡ fn
+named_follows : (w : World) (b : ℕ) (f g : Next) → Below b f f → Follows w b f g → (path : List ℕ) (depth before : ℕ) (t : Hidden) (ts : List Hidden) (work : Work) (m : Definition)
+    → Good w (t ∷ ts) → macro_of w.old t ≡ Some m → work.left + length ts < b → (e : Expanded) → (fn : Bool) → is_function m.form ≡ fn
     → cond fn (behind_name (old_setting w path) f depth before t m ts work) (replaced (old_setting w path) f depth before t.tok m (t.hides ++ t.tok.text ∷ []) [] ts work) ≡ Ok e → AllRespected w.o w.r e.notes
     → Followed w e (act (new_setting w path) g depth before (renamed_hidden w.r t) (map (renamed_hidden w.r) ts) work (macro_of w.new (renamed_hidden w.r t)))
 named_follows w b f g below follows path depth before t [] work m good is_m h e true fn is resp =
@@ -209,8 +210,8 @@ named_follows w b f g below follows path depth before t ts work m good is_m h e 
       k.1,
     )
 
-act_follows : (w : World) (b : ℕ) (f g : Next) → Below b f f → Follows w b f g → (path : List ℕ) (depth before : ℕ) (t : Hidden) (ts : List Hidden) (work : ℕ)
-    → Good w (t ∷ ts) → work + length ts < b → (e : Expanded) → (m : Option Definition) → macro_of w.old t ≡ m
+act_follows : (w : World) (b : ℕ) (f g : Next) → Below b f f → Follows w b f g → (path : List ℕ) (depth before : ℕ) (t : Hidden) (ts : List Hidden) (work : Work)
+    → Good w (t ∷ ts) → work.left + length ts < b → (e : Expanded) → (m : Option Definition) → macro_of w.old t ≡ m
     → act (old_setting w path) f depth before t ts work m ≡ Ok e → AllRespected w.o w.r e.notes
     → Followed w e (act (new_setting w path) g depth before (renamed_hidden w.r t) (map (renamed_hidden w.r) ts) work (macro_of w.new (renamed_hidden w.r t)))
 act_follows w b f g below follows path depth before t ts work good h e None is_m is resp =
@@ -219,8 +220,8 @@ act_follows w b f g below follows path depth before t ts work good h e None is_m
 act_follows w b f g below follows path depth before t ts work good h e (Some m) is_m is resp =
     named_follows w b f g below follows path depth before t ts work m good is_m h e (is_function m.form) refl is resp
 
-step_follows : (w : World) (b : ℕ) (f g : Next) → Below b f f → Follows w b f g → (path : List ℕ) (depth before : ℕ) (ts : List Hidden) (work : ℕ)
-    → Good w ts → work + length ts < suc b → (e : Expanded) → step (old_setting w path) f depth before ts work ≡ Ok e → AllRespected w.o w.r e.notes
+step_follows : (w : World) (b : ℕ) (f g : Next) → Below b f f → Follows w b f g → (path : List ℕ) (depth before : ℕ) (ts : List Hidden) (work : Work)
+    → Good w ts → work.left + length ts < suc b → (e : Expanded) → step (old_setting w path) f depth before ts work ≡ Ok e → AllRespected w.o w.r e.notes
     → Followed w e (step (new_setting w path) g depth before (map (renamed_hidden w.r) ts) work)
 step_follows w b f g below follows path depth before [] work good h e is resp =
     let P : Expanded → Type 0 = λ v. Followed w v (Ok (expanded [] [] work)) in
@@ -250,8 +251,8 @@ pub expansion_is_renamed : ExpansionIsRenamed
 unfolding Follows expansion
 expansion_is_renamed = λ o r old new path run work e keeps occur is resp.
     let w : World = record { o = o; r = r; old = old; new = new; keeps = keeps } in
-    let follows : (depth before : ℕ) (ts : List Hidden) (work2 : ℕ) (e : Expanded) → work2 + length ts < suc (work + length (unhidden run)) → Good w ts
+    let follows : (depth before : ℕ) (ts : List Hidden) (work2 : Work) (e : Expanded) → work2.left + length ts < suc (work.left + length (unhidden run)) → Good w ts
     → whole (old_setting w path) depth before ts work2 ≡ Ok e → AllRespected o r e.notes → Followed w e (whole (new_setting w path) depth before (map (renamed_hidden r) ts) work2) =
-    whole_follows w path (suc (work + length (unhidden run))) in
+    whole_follows w path (suc (work.left + length (unhidden run))) in
     ap (λ ts. whole (new_setting w path) 0 0 ts work) (unhidden-renamed r run)
     ∙ (follows 0 0 (unhidden run) work e (omega arith) (Good-unhidden w run occur) is resp).0

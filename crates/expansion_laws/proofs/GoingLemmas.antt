@@ -9,6 +9,7 @@ use Rattle.std.proofs.Math.ListN as listn
 use Rattle.cs_base.specs.Token.{Token}
 use Rattle.cs_base.proofs.BoolLemmas.{and_false}
 use Rattle.line_shape.specs.Signs.{is_name, is_open}
+use Rattle.macro_body.specs.declared.notes.Work.{Work}
 use Rattle.macro_body.specs.Hides.{Hidden, hidden, toks_of, unhidden}
 use Rattle.macro_body.specs.Notes.{Expanded, expanded}
 use Rattle.macro_expand.specs.Expansion.{Setting, whole}
@@ -86,15 +87,16 @@ one_like (u ∷ v ∷ us) t e = absurd cc
 
 -- They are expanded to these tokens, but for lines and white space, for so much work; and where `shut`, no call begins at
 -- their last token.
-pub record Went (set : Setting) (before : ℕ) (run : List Token) (work : ℕ) (outs : List Token) (cost : ℕ) (shut : Bool) : Type 0 where
+pub record Went (set : Setting) (before : ℕ) (run : List Token) (work : Work) (outs : List Token) (cost : ℕ) (shut : Bool) : Type 0 where
   pub e : Expanded
   pub is : whole set 0 before (unhidden run) work ≡ Ok e
   pub toks : map bare (toks_of e.toks) ≡ outs
-  pub left : e.left + cost ≡ work
+  pub left : e.left.left + cost ≡ work.left
+  pub counter : e.left.counter ≡ work.counter
   pub ends : shut ≡ true → ends_callable set.table e.toks ≡ false
 
 abbrev pub Goes : Setting → List Token → List Token → ℕ → Bool → Type 0
-Goes set run outs cost shut = (before work : ℕ) → cost ≤ work → Went set before run work outs cost shut
+Goes set run outs cost shut = (before : ℕ) (work : Work) → cost ≤ work.left → Went set before run work outs cost shut
 
 pub goes_as : (set : Setting) (run run2 outs outs2 : List Token) (cost cost2 : ℕ) (shut : Bool) → run ≡ run2 → outs ≡ outs2 → cost ≡ cost2 → Goes set run outs cost shut → Goes set run2 outs2 cost2 shut
 goes_as set run run2 outs outs2 cost cost2 shut r o c go = λ before work room.
@@ -105,6 +107,7 @@ goes_as set run run2 outs outs2 cost cost2 shut r o c go = λ before work room.
       is = ap (λ (us : List Token). whole set 0 before (unhidden us) work) (sym r) ∙ w.is;
       toks = w.toks ∙ o;
       left = omega (arith, l, c);
+      counter = w.counter;
       ends = w.ends;
     }
 
@@ -114,6 +117,7 @@ goes_none set shut = λ before work room. record {
   is = whole_is_step set 0 before [] work;
   toks = refl;
   left = omega arith;
+  counter = refl;
   ends = λ h. refl;
 }
 
@@ -123,6 +127,7 @@ goes_sign set u t like lacks = λ before work room. record {
   is = sign_alone set 0 before (hidden u []) work (no_macro_of set.table (hidden u []) lacks);
   toks = ap (λ (v : Token). v ∷ []) (bare_of_unlined u t like);
   left = omega arith;
+  counter = refl;
   ends = λ h. ap is_callable (no_macro_of set.table (hidden u []) lacks);
 }
 
@@ -151,6 +156,7 @@ goes_both in_parts set xs ys outs more cost cost2 shut shut2 one two apart = λ 
           ap (map bare) (map-append (λ (h : Hidden). h.tok) w.e.toks w2.e.toks) ∙ map-append bare (toks_of w.e.toks) (toks_of w2.e.toks)
           ∙ ap (λ (l : List Token). l ++ map bare (toks_of w2.e.toks)) w.toks ∙ ap (λ (l : List Token). outs ++ l) w2.toks;
       left = omega (arith, l, l2);
+      counter = w2.counter ∙ w.counter;
       ends = λ h. absurd (lacks h);
     }
   where
@@ -158,9 +164,9 @@ goes_both in_parts set xs ys outs more cost cost2 shut shut2 one two apart = λ 
     lacks h = cc
 
 -- what is alike goes so
-pub goes_alike : (set : Setting) (loose : Bool) (before : ℕ) (run new : List Token) (work : ℕ) (e : Expanded) (shut : Bool) → whole set 0 before (unhidden run) work ≡ Ok e
+pub goes_alike : (set : Setting) (loose : Bool) (before : ℕ) (run new : List Token) (work : Work) (e : Expanded) (shut : Bool) → whole set 0 before (unhidden run) work ≡ Ok e
     → list_all (brings_no_line set.table) e.notes ≡ true → labels loose new ≡ labels loose run → (shut ≡ true → ends_callable set.table e.toks ≡ false)
-    → Goes set new (map bare (toks_of e.toks)) (work - e.left) shut
+    → Goes set new (map bare (toks_of e.toks)) (work.left - e.left.left) shut
 goes_alike set loose before run new work e shut is quiet like ends = λ before2 work2 room.
     let fell = whole_falls set 0 before (unhidden run) work e is in
     let k = expands_alike true loose set 0 before before2 (unhidden run) (unhidden new) work work2 e is (canon_same loose new run like) (omega (arith, fell, room)) quiet in
@@ -170,6 +176,7 @@ goes_alike set loose before run new work e shut is quiet like ends = λ before2 
       is = k.1;
       toks = same_bare loose k.0.toks e.toks k.2.toks;
       left = omega (arith, c, fell, room);
+      counter = k.2.counters.1;
       ends = λ h. ends_alike true loose set.table k.0.toks e.toks k.2.toks ∙ ends h;
     }
 

@@ -8,6 +8,7 @@ use Rattle.cs_base.specs.Token.{Token}
 use Rattle.cs_base.proofs.ListLemmas.{drop_at, in_drop, in_take, take_at}
 use Rattle.line_shape.specs.Signs.{is_name, is_sign, is_open, is_close, is_comma}
 use Rattle.line_shape.proofs.SignLemmas.{sign-no_name, sign-no_sign}
+use Rattle.macro_body.specs.declared.notes.Work.{Work}
 use Rattle.macro_body.specs.Hides.{Hidden, hidden, toks_of, unhidden}
 use Rattle.macro_body.specs.Macro.{Table}
 use Rattle.macro_body.specs.Notes.{Note, Expanded, expanded, put_out}
@@ -92,7 +93,7 @@ ends_sign table (x ∷ y ∷ hs) h is = ends_sign table (y ∷ hs) h is
 -- ---- a run splits at a mark
 
 -- It falls into what stands before the mark, the mark, and what stands behind it.
-pub record SplitAt (set : Setting) (before : ℕ) (run : List Token) (work : ℕ) (e : Expanded) (k m : ℕ) (mark : Token) : Type 0 where
+pub record SplitAt (set : Setting) (before : ℕ) (run : List Token) (work : Work) (e : Expanded) (k m : ℕ) (mark : Token) : Type 0 where
   pub sign : Hidden
   pub x : Expanded
   pub z : Expanded
@@ -117,7 +118,7 @@ unhidden_take n ts = take-map (λ (t : Token). hidden t []) n ts
 unhidden_drop : (n : ℕ) (ts : List Token) → drop n (unhidden ts) ≡ unhidden (drop n ts)
 unhidden_drop n ts = drop-map (λ (t : Token). hidden t []) n ts
 
-pub split_at : (set : Setting) (before : ℕ) (run : List Token) (work : ℕ) (e : Expanded) (k m : ℕ) (sign : Token → Bool) (mk : IsMark sign run (toks_of e.toks) k m)
+pub split_at : (set : Setting) (before : ℕ) (run : List Token) (work : Work) (e : Expanded) (k m : ℕ) (sign : Token → Bool) (mk : IsMark sign run (toks_of e.toks) k m)
     → ((t : Token) → sign t ≡ true → is_name t ≡ false) → AreDistinct run → whole set 0 before (unhidden run) work ≡ Ok e → SplitAt set before run work e k m mk.mark
 split_at set before run work e k m sign mk lacks d is =
     let at = hidden_at e.toks m mk.mark mk.out_has in

@@ -2,8 +2,10 @@
 use Rattle.std.proofs.Common.{◌≡◌, ℕ, zero, suc, ◌+◌, ◌-◌, ◌<◌, ◌≤◌, ◌&&◌, Bool, true, false, not, cond, List, [], ◌∷◌, ◌++◌, length, map, get_or, Option, Some, None, Result, Ok, Err, refl, sym, subst, ◌∙◌, arith, length-append, nat_lt}
 use Rattle.std.proofs.lemmas.List.{length-map}
 use Rattle.std.proofs.lemmas.Option.{none-some}
+use Rattle.cs_base.specs.Limits.{most_bytes}
 use Rattle.cs_base.specs.Token.{Token}
 use Rattle.line_shape.specs.Signs.{is_name, is_open}
+use Rattle.macro_body.specs.declared.notes.Work.{Work}
 use Rattle.macro_body.specs.Below.paste_origin.Pasting.{PasteFault, glue_of}
 use Rattle.macro_body.specs.Below.paste_origin.Strings.{StringFault, stringize_of}
 use Rattle.macro_body.specs.declared.definitions.Form.{Form}
@@ -13,9 +15,9 @@ use Rattle.macro_body.specs.Hides.{Hidden, hidden, hide_more, in_both, toks_of, 
 use Rattle.macro_body.specs.Macro.{Table, is_function}
 use Rattle.macro_body.specs.Bodies.{Part, Plain, Param, Quote, Paste, Rest, chains_of, occurs_alone}
 use Rattle.macro_expand.specs.Calls.{Call, call_from, commas_of, arguments_of}
-use Rattle.macro_body.specs.Notes.{Fault, OpenCall, WrongArguments, TooMuchWork, TooDeep, Note, Replaced, Linked, Stringized, Pasted, Expanded, expanded, put_out, noted, onward}
-use Rattle.macro_body.specs.Substitution.{Arguments, Made, made, made_both, with_gap, put_in, argument_for, rest_tokens, rest_for, is_alone, string_made, operand_made, operands_made, chains_made, token_pasted, pasted_behind, two_pasted, chain_pasted, chains_pasted, result_of, cost_of, line_number, path_string}
-use Rattle.macro_expand.specs.Expansion.{Setting, Next, most_depth, one_more, stays, Full, full, with_full, without_full, alone, full_step, full_from, spent, substituted, put_for, first_notes, replaced, added_by, called_with, called, behind_name, act, macro_of, step, whole}
+use Rattle.macro_body.specs.Notes.{Fault, OpenCall, WrongArguments, TooMuchWork, TooDeep, Note, Counted, Replaced, Linked, Stringized, Pasted, Expanded, expanded, put_out, noted, onward}
+use Rattle.macro_body.specs.Substitution.{Arguments, Made, made, made_both, with_gap, put_in, argument_for, rest_tokens, rest_for, is_alone, string_made, operand_made, operands_made, chains_made, token_pasted, pasted_behind, two_pasted, chain_pasted, chains_pasted, result_of, cost_of, number_token, line_number, path_string}
+use Rattle.macro_expand.specs.Expansion.{Setting, Next, most_depth, one_more, stays, Full, full, with_full, without_full, alone, full_step, full_from, spent, numbered, substituted, put_for, first_notes, replaced, added_by, called_with, called, behind_name, act, macro_of, step, whole}
 use Rattle.macro_expand.specs.Renaming.{Occurring, occurs, AllOccur}
 use Rattle.macro_expand.specs.Laws.{AllDefined, Passes, AllMadePass, TokensComeFromSomewhere}
 use Rattle.macro_body.proofs.ResultLemmas.{ok_same, err_ok, onward_ok, cond_ok, cond_ok_yes}
@@ -31,6 +33,7 @@ made_split o (Stringized toks s ∷ xs) ys h = let k = made_split o xs ys h.1 in
 made_split o (Pasted x y z ∷ xs) ys h = let k = made_split o xs ys h.1 in ((h.0, k.0), k.1)
 made_split o (Replaced name m n ∷ xs) ys h = made_split o xs ys h
 made_split o (Linked x y ∷ xs) ys h = made_split o xs ys h
+made_split o (Counted z ∷ xs) ys h = made_split o xs ys h
 
 -- What is made.
 
@@ -155,9 +158,9 @@ result_good g name args good cs here m e pass =
 
 -- so it is with fewer than b tokens and steps of work together
 unfoldable HoldsBelow : Ground → ℕ → Next → Type 0
-HoldsBelow g b f = (depth before : ℕ) (ts : List Hidden) (work : ℕ) (e : Expanded) → work + length ts < b → Good g ts → f depth before ts work ≡ Ok e → AllMadePass g.o e.notes → Good g e.toks
+HoldsBelow g b f = (depth before : ℕ) (ts : List Hidden) (work : Work) (e : Expanded) → work.left + length ts < b → Good g ts → f depth before ts work ≡ Ok e → AllMadePass g.o e.notes → Good g e.toks
 
-stays_good : (g : Ground) (b : ℕ) (f : Next) → HoldsBelow g b f → (depth before : ℕ) (t : Hidden) (ts : List Hidden) (work : ℕ) (e : Expanded) → work + length ts < b → Good g (t ∷ ts)
+stays_good : (g : Ground) (b : ℕ) (f : Next) → HoldsBelow g b f → (depth before : ℕ) (t : Hidden) (ts : List Hidden) (work : Work) (e : Expanded) → work.left + length ts < b → Good g (t ∷ ts)
     → stays f depth before t ts work ≡ Ok e → AllMadePass g.o e.notes → Good g e.toks
 unfolding HoldsBelow
 stays_good g b f holds depth before t ts work e h good is pass =
@@ -165,9 +168,9 @@ stays_good g b f holds depth before t ts work e h good is pass =
     let P : Expanded → Type 0 = λ v. AllMadePass g.o v.notes → Good g v.toks in
     subst P (ok_same (put_out t i.0) e i.2) (λ r. (good.0, good.1, holds depth (one_more depth before) ts work i.0 h good.2 i.1 r)) pass
 
-full_step_good : (g : Ground) (f : Next) (wanted : Bool) (depth before : ℕ) (name : Token) (a : List Hidden) (work : ℕ) (rest : ℕ → Result Full Fault)
-    → ((e : Expanded) → alone f depth before name a work ≡ Ok e → (e.left ≤ work) × (AllMadePass g.o e.notes → Good g e.toks))
-    → ((left : ℕ) (v : Full) → left ≤ work → rest left ≡ Ok v → AllMadePass g.o v.notes → GoodLists g v.lists)
+full_step_good : (g : Ground) (f : Next) (wanted : Bool) (depth before : ℕ) (name : Token) (a : List Hidden) (work : Work) (rest : Work → Result Full Fault)
+    → ((e : Expanded) → alone f depth before name a work ≡ Ok e → (e.left.left ≤ work.left) × (AllMadePass g.o e.notes → Good g e.toks))
+    → ((left : Work) (v : Full) → left.left ≤ work.left → rest left ≡ Ok v → AllMadePass g.o v.notes → GoodLists g v.lists)
     → (v : Full) → full_step wanted f depth before name a work rest ≡ Ok v → AllMadePass g.o v.notes → GoodLists g v.lists
 full_step_good g f false depth before name a work rest here behind v is pass =
     let i = onward_ok {A = Full} (rest work) (λ x. Ok (without_full x)) v is in
@@ -183,7 +186,7 @@ full_step_good g f true depth before name a work rest here behind v is pass =
     (k.1 each.0, behind i.0.left j.0 k.0 j.1 each.1)) pass
 
 full_good : (g : Ground) (b : ℕ) (f : Next) → Below b f f → HoldsBelow g b f → (depth before : ℕ) (name : Token) (chains : List (List Part)) (i n : ℕ) (lists : List (List Hidden))
-    → AllWithin n lists → GoodLists g lists → (work : ℕ) → work + n < b → (v : Full) → full_from f depth before name chains i lists work ≡ Ok v → AllMadePass g.o v.notes → GoodLists g v.lists
+    → AllWithin n lists → GoodLists g lists → (work : Work) → work.left + n < b → (v : Full) → full_from f depth before name chains i lists work ≡ Ok v → AllMadePass g.o v.notes → GoodLists g v.lists
 unfolding Below HoldsBelow
 full_good g b f below holds depth before name chains i n [] none good work h v is pass =
     subst (λ (x : Full). GoodLists g x.lists) (ok_same (full [] [] work) v is) tt
@@ -195,17 +198,17 @@ full_good g b f below holds depth before name chains i n (a ∷ lists) (more her
     (λ left x le x_is r. full_good g b f below holds depth before name chains (suc i) n lists behind good.1 left (omega arith) x x_is r)
     v is pass
 
-spent_good : (g : Ground) (name : Token) (cost work : ℕ) (r : Result (Made (List Hidden)) Fault) → ((m : Made (List Hidden)) → r ≡ Ok m → AllMadePass g.o m.notes → Good g m.value)
+spent_good : (g : Ground) (name : Token) (cost : ℕ) (work : Work) (r : Result (Made (List Hidden)) Fault) → ((m : Made (List Hidden)) → r ≡ Ok m → AllMadePass g.o m.notes → Good g m.value)
     → (e : Expanded) → spent name cost work r ≡ Ok e → AllMadePass g.o e.notes → Good g e.toks
 spent_good g name cost work r is_good e is pass =
-    let put : Made (List Hidden) → Result Expanded Fault = λ m. Ok (expanded m.value m.notes (work - cost)) in
-    let c = cond_ok (nat_lt work cost) (TooMuchWork name.at) (onward r put) e is in
+    let put : Made (List Hidden) → Result Expanded Fault = λ m. Ok (expanded m.value m.notes (record work { left = work.left - cost })) in
+    let c = cond_ok (nat_lt work.left cost) (TooMuchWork name.at) (onward r put) e is in
     let i = onward_ok {A = Made (List Hidden)} r put e c.1 in
     let P : Expanded → Type 0 = λ v. AllMadePass g.o v.notes → Good g v.toks in
-    subst P (ok_same (expanded i.0.value i.0.notes (work - cost)) e i.2) (λ n. is_good i.0 i.1 n) pass
+    subst P (ok_same (expanded i.0.value i.0.notes (record work { left = work.left - cost })) e i.2) (λ n. is_good i.0 i.1 n) pass
 
 substituted_good : (g : Ground) (b : ℕ) (f : Next) → Below b f f → HoldsBelow g b f → (depth before : ℕ) (name : Token) (m : Definition) (n : ℕ) → AllOccur g.o m.body
-    → (raw : List (List Hidden)) → AllWithin n raw → GoodLists g raw → (work : ℕ) → work + n < b → (e : Expanded)
+    → (raw : List (List Hidden)) → AllWithin n raw → GoodLists g raw → (work : Work) → work.left + n < b → (e : Expanded)
     → substituted f depth before name m raw work ≡ Ok e → AllMadePass g.o e.notes → Good g e.toks
 substituted_good g b f below holds depth before name m n body raw within good work h e is pass =
     let args : List (List Hidden) → Arguments = λ lists. record { raw = raw; full = lists } in
@@ -220,16 +223,21 @@ substituted_good g b f below holds depth before name m n body raw within good wo
     let good_args : GoodArguments g (args i.0.lists) = record { raw = good; full = k } in
     spent_good g name cost i.0.left (result_of name (args i.0.lists) (chains_of m)) (λ v v_is r. result_good g name (args i.0.lists) good_args (chains_of m) (chains_of-occur g m body) v v_is r) j.0 j.1 each.1) pass
 
-one_good : (g : Ground) (t : Token) → occurs g.o t ≡ true → (m : Made (List Hidden)) → ◌≡◌ {A = Result (Made (List Hidden)) Fault} (Ok (made (hidden t [] ∷ []) [])) (Ok m) → AllMadePass g.o m.notes → Good g m.value
-one_good g t here m e pass = subst (λ (v : Made (List Hidden)). Good g v.value) (ok_same (made (hidden t [] ∷ []) []) m e) (here, tt, tt)
+one_good : (g : Ground) (t : Token) (notes : List Note) → occurs g.o t ≡ true → (m : Made (List Hidden)) → ◌≡◌ {A = Result (Made (List Hidden)) Fault} (Ok (made (hidden t [] ∷ []) notes)) (Ok m)
+    → AllMadePass g.o m.notes → Good g m.value
+one_good g t notes here m e pass = subst (λ (v : Made (List Hidden)). Good g v.value) (ok_same (made (hidden t [] ∷ []) notes) m e) (here, tt, tt)
 
 put_for_good : (g : Ground) (set : Setting) → Passes g.o set → (b : ℕ) (f : Next) → Below b f f → HoldsBelow g b f → (form : Form) (depth before : ℕ) (name : Token) (m : Definition) (n : ℕ)
-    → AllOccur g.o m.body → (raw : List (List Hidden)) → AllWithin n raw → GoodLists g raw → (work : ℕ) → work + n < b → (e : Expanded)
+    → AllOccur g.o m.body → (raw : List (List Hidden)) → AllWithin n raw → GoodLists g raw → (work : Work) → work.left + n < b → (e : Expanded)
     → put_for form set.path f depth before name m raw work ≡ Ok e → AllMadePass g.o e.notes → Good g e.toks
 put_for_good g set passes b f below holds form.Line depth before name m n body raw within good work h e is pass =
-    spent_good g name 1 work (Ok (made (hidden (line_number name) [] ∷ []) [])) (one_good g (line_number name) (passes.lines name)) e is pass
+    spent_good g name 1 work (Ok (made (hidden (line_number name) [] ∷ []) [])) (one_good g (line_number name) [] (passes.numbers name name.line)) e is pass
 put_for_good g set passes b f below holds form.File depth before name m n body raw within good work h e is pass =
-    spent_good g name 1 work (Ok (made (hidden (path_string set.path name) [] ∷ []) [])) (one_good g (path_string set.path name) (passes.paths name)) e is pass
+    spent_good g name 1 work (Ok (made (hidden (path_string set.path name) [] ∷ []) [])) (one_good g (path_string set.path name) [] (passes.paths name)) e is pass
+put_for_good g set passes b f below holds form.Counter depth before name m n body raw within good work h e is pass =
+    let t : Token = number_token name work.counter in
+    let c = cond_ok_yes (nat_lt work.counter most_bytes) (TooMuchWork name.at) (numbered name work) e is in
+    spent_good g name 1 (record work { counter = work.counter + 1 }) _ (one_good g t (Counted t ∷ []) (passes.numbers name work.counter)) e c.1 pass
 put_for_good g set passes b f below holds form.Object depth before name m n body raw within good work h e is pass = substituted_good g b f below holds depth before name m n body raw within good work h e is pass
 put_for_good g set passes b f below holds form.Function depth before name m n body raw within good work h e is pass = substituted_good g b f below holds depth before name m n body raw within good work h e is pass
 
@@ -238,7 +246,7 @@ ground_of o set = record { o = o; old = set.table }
 
 replaced_good : (o : Occurring) (set : Setting) → Passes o set → (b : ℕ) (f : Next) → Below b f f → HoldsBelow (ground_of o set) b f → (depth before : ℕ) (name : Token) (m : Definition)
     → AllOccur o m.body → (added : List (List ℕ)) → AllDefined set.table added → (n : ℕ) (raw : List (List Hidden)) → AllWithin n raw → GoodLists (ground_of o set) raw
-    → (ts : List Hidden) → Good (ground_of o set) ts → (work : ℕ) → work + n < b → work + length ts < b → (e : Expanded)
+    → (ts : List Hidden) → Good (ground_of o set) ts → (work : Work) → work.left + n < b → work.left + length ts < b → (e : Expanded)
     → replaced set f depth before name m added raw ts work ≡ Ok e → AllMadePass o e.notes → Good (ground_of o set) e.toks
 unfolding HoldsBelow
 replaced_good o set passes b f below holds depth before name m body added defined n raw within good ts good_ts work h h2 e is pass =
@@ -248,7 +256,7 @@ replaced_good o set passes b f below holds depth before name m body added define
     let list : List Hidden = map (hide_more added) i.0.toks ++ ts in
     let j = onward_ok {A = Expanded} (f depth before list i.0.left) (λ rest. Ok (noted (first_notes name m before ++ i.0.notes) rest)) e i.2 in
     let puts = (put_for_puts b f f below m.form set.path depth before name m n raw within work h).falls i.0 i.1 in
-    let room : i.0.left + length list < b = omega (arith, length-append (map (hide_more added) i.0.toks) ts, length-map i.0.toks (hide_more added)) in
+    let room : i.0.left.left + length list < b = omega (arith, length-append (map (hide_more added) i.0.toks) ts, length-map i.0.toks (hide_more added)) in
     let P : Expanded → Type 0 = λ v. AllMadePass o v.notes → Good g v.toks in
     subst P (ok_same (noted (first_notes name m before ++ i.0.notes) j.0) e j.2) (λ all.
     let first = made_split o (first_notes name m before ++ i.0.notes) j.0.notes all in
@@ -264,7 +272,7 @@ replaced_by table t m e = found (is_name t.tok && not (hides_name t.hides t.tok.
     found false k = absurd (none-some m k)
 
 called_good : (o : Occurring) (set : Setting) → Passes o set → (b : ℕ) (f : Next) → Below b f f → HoldsBelow (ground_of o set) b f → (depth before : ℕ) (t : Hidden) (m : Definition)
-    → set.table t.tok.text ≡ Some m → AllDefined set.table t.hides → (ts : List Hidden) (work : ℕ) → Good (ground_of o set) ts → work + length ts < b
+    → set.table t.tok.text ≡ Some m → AllDefined set.table t.hides → (ts : List Hidden) (work : Work) → Good (ground_of o set) ts → work.left + length ts < b
     → (call : Option Call) → call_from ts (commas_of m) 0 ≡ call → (e : Expanded) → called set f depth before t m work call ≡ Ok e → AllMadePass o e.notes → Good (ground_of o set) e.toks
 called_good o set passes b f below holds depth before t m is_m hides ts work good h None call_is e is pass = err_ok (OpenCall t.tok.at) e is
 called_good o set passes b f below holds depth before t m is_m hides ts work good h (Some call) call_is e is pass = by (arguments_of m call.arguments) refl is
@@ -280,17 +288,17 @@ called_good o set passes b f below holds depth before t m is_m hides ts work goo
         (AllDefined-append set.table (in_both t.hides call.close) (t.tok.text ∷ []) (AllDefined-in_both set.table t.hides call.close hides) ((m, is_m), tt))
         (length ts) raw (arguments_within m (length ts) call.arguments raw short.each args_are) (good_arguments g m call.arguments raw fine.each args_are) call.rest fine.rest work h (omega arith) e k pass
 
-act_good : (o : Occurring) (set : Setting) → Passes o set → (b : ℕ) (f : Next) → Below b f f → HoldsBelow (ground_of o set) b f → (depth before : ℕ) (t : Hidden) (ts : List Hidden) (work : ℕ)
-    → Good (ground_of o set) (t ∷ ts) → work + length ts < b → (e : Expanded) → (m : Option Definition) → macro_of set.table t ≡ m → act set f depth before t ts work m ≡ Ok e → AllMadePass o e.notes → Good (ground_of o set) e.toks
+act_good : (o : Occurring) (set : Setting) → Passes o set → (b : ℕ) (f : Next) → Below b f f → HoldsBelow (ground_of o set) b f → (depth before : ℕ) (t : Hidden) (ts : List Hidden) (work : Work)
+    → Good (ground_of o set) (t ∷ ts) → work.left + length ts < b → (e : Expanded) → (m : Option Definition) → macro_of set.table t ≡ m → act set f depth before t ts work m ≡ Ok e → AllMadePass o e.notes → Good (ground_of o set) e.toks
 act_good o set passes b f below holds depth before t ts work good h e None is_m is pass = stays_good (ground_of o set) b f holds depth before t ts work e h good is pass
 act_good o set passes b f below holds depth before t ts work good h e (Some m) is_m is pass = by (is_function m.form) is
   where
     in_call : (zs : List Hidden) → zs ≡ ts → behind_name set f depth before t m zs work ≡ Ok e → Good (ground_of o set) e.toks
-    in_call [] zs_are k = stays_good (ground_of o set) b f holds depth before t [] work e (subst (λ l. work + length l < b) (sym zs_are) h) (subst (λ l. Good (ground_of o set) (t ∷ l)) (sym zs_are) good) k pass
+    in_call [] zs_are k = stays_good (ground_of o set) b f holds depth before t [] work e (subst (λ l. work.left + length l < b) (sym zs_are) h) (subst (λ l. Good (ground_of o set) (t ∷ l)) (sym zs_are) good) k pass
     in_call (p ∷ zs) zs_are k = opened (is_open p.tok) k
       where
-        room : work + length (p ∷ zs) < b
-        room = subst (λ l. work + length l < b) (sym zs_are) h
+        room : work.left + length (p ∷ zs) < b
+        room = subst (λ l. work.left + length l < b) (sym zs_are) h
 
         fine : Good (ground_of o set) (t ∷ p ∷ zs)
         fine = subst (λ l. Good (ground_of o set) (t ∷ l)) (sym zs_are) good
@@ -306,8 +314,8 @@ act_good o set passes b f below holds depth before t ts work good h e (Some m) i
         replaced_good o set passes b f below holds depth before t.tok m (passes.bodies t.tok.text m old_is) (t.hides ++ t.tok.text ∷ [])
         (AllDefined-append set.table t.hides (t.tok.text ∷ []) good.1 ((m, old_is), tt)) 0 [] none tt ts good.2 work (omega arith) h e k pass
 
-step_good : (o : Occurring) (set : Setting) → Passes o set → (b : ℕ) → HoldsBelow (ground_of o set) b (whole set) → (depth before : ℕ) (ts : List Hidden) (work : ℕ) (e : Expanded)
-    → work + length ts < suc b → Good (ground_of o set) ts → step set (whole set) depth before ts work ≡ Ok e → AllMadePass o e.notes → Good (ground_of o set) e.toks
+step_good : (o : Occurring) (set : Setting) → Passes o set → (b : ℕ) → HoldsBelow (ground_of o set) b (whole set) → (depth before : ℕ) (ts : List Hidden) (work : Work) (e : Expanded)
+    → work.left + length ts < suc b → Good (ground_of o set) ts → step set (whole set) depth before ts work ≡ Ok e → AllMadePass o e.notes → Good (ground_of o set) e.toks
 step_good o set passes b holds depth before [] work e h good is pass = subst (λ (v : Expanded). Good (ground_of o set) v.toks) (ok_same (expanded [] [] work) e is) tt
 step_good o set passes b holds depth before (t ∷ ts) work e h good is pass =
     act_good o set passes b (whole set) (whole_below_itself set b) holds depth before t ts work good (omega arith) e (macro_of set.table t) refl is pass
@@ -322,6 +330,6 @@ holds_below o set passes (suc b) = λ depth before ts work e h good is pass.
 pub tokens_come_from_somewhere : TokensComeFromSomewhere
 unfolding HoldsBelow
 tokens_come_from_somewhere = λ o set depth before ts work e passes held is pass.
-    let holds : (depth before : ℕ) (ts2 : List Hidden) (work2 : ℕ) (e : Expanded) → work2 + length ts2 < suc (work + length ts) → Good (ground_of o set) ts2
-    → whole set depth before ts2 work2 ≡ Ok e → AllMadePass o e.notes → Good (ground_of o set) e.toks = holds_below o set passes (suc (work + length ts)) in
+    let holds : (depth before : ℕ) (ts2 : List Hidden) (work2 : Work) (e : Expanded) → work2.left + length ts2 < suc (work.left + length ts) → Good (ground_of o set) ts2
+    → whole set depth before ts2 work2 ≡ Ok e → AllMadePass o e.notes → Good (ground_of o set) e.toks = holds_below o set passes (suc (work.left + length ts)) in
     holds depth before ts work e (omega arith) held is pass

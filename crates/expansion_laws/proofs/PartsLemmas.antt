@@ -5,6 +5,7 @@ use Rattle.std.proofs.lemmas.List.{length-map}
 use Rattle.std.proofs.lemmas.Option.{none-some, same_Some}
 use Rattle.cs_base.specs.Token.{Token}
 use Rattle.line_shape.specs.Signs.{is_open}
+use Rattle.macro_body.specs.declared.notes.Work.{Work}
 use Rattle.macro_body.specs.declared.definitions.Definition.{Definition}
 use Rattle.macro_body.specs.Hides.{Hidden, hide_more}
 use Rattle.macro_body.specs.Macro.{Table, is_function}
@@ -53,15 +54,15 @@ Joins set depth before ys x res = (y : Expanded) → (ends_callable set.table x.
 
 -- so it is with fewer than b tokens and steps of work together
 unfoldable JoinsBelow : Setting → List Hidden → ℕ → Type 0
-JoinsBelow set ys b = (depth before : ℕ) (xs : List Hidden) (work : ℕ) (x : Expanded) → work + length xs < b
+JoinsBelow set ys b = (depth before : ℕ) (xs : List Hidden) (work : Work) (x : Expanded) → work.left + length xs < b
     → whole set depth before xs work ≡ Ok x → Joins set depth before ys x (whole set depth before (xs ++ ys) work)
 
 ends_later : (table : Table) (t : Hidden) (ts ys : List Hidden) → (ends_callable table (t ∷ ts) && begins_open ys) ≡ false → (ends_callable table ts && begins_open ys) ≡ false
 ends_later table t [] ys h = refl
 ends_later table t (u ∷ us) ys h = h
 
-stays_joins : (set : Setting) (ys : List Hidden) (b : ℕ) → JoinsBelow set ys b → (depth before : ℕ) (t : Hidden) (xs : List Hidden) (work : ℕ) (x : Expanded)
-    → work + length xs < b → stays (whole set) depth before t xs work ≡ Ok x → Joins set depth before ys x (stays (whole set) depth before t (xs ++ ys) work)
+stays_joins : (set : Setting) (ys : List Hidden) (b : ℕ) → JoinsBelow set ys b → (depth before : ℕ) (t : Hidden) (xs : List Hidden) (work : Work) (x : Expanded)
+    → work.left + length xs < b → stays (whole set) depth before t xs work ≡ Ok x → Joins set depth before ys x (stays (whole set) depth before t (xs ++ ys) work)
 unfolding JoinsBelow
 stays_joins set ys b below depth before t xs work x h is =
     let i = onward_ok {A = Expanded} (whole set depth (one_more depth before) xs work) (λ o. Ok (put_out t o)) x is in
@@ -75,7 +76,7 @@ after next depth before name m added ts e =
     onward (next depth before (map (hide_more added) e.toks ++ ts) e.left) (λ rest. Ok (noted (first_notes name m before ++ e.notes) rest))
 
 replaced_joins : (set : Setting) (ys : List Hidden) (b : ℕ) → JoinsBelow set ys b → (depth before : ℕ) (name : Token) (m : Definition) (added : List (List ℕ)) (n : ℕ)
-    → (raw : List (List Hidden)) → AllWithin n raw → (xs : List Hidden) (work : ℕ) (x : Expanded) → work + n < b → work + length xs < b
+    → (raw : List (List Hidden)) → AllWithin n raw → (xs : List Hidden) (work : Work) (x : Expanded) → work.left + n < b → work.left + length xs < b
     → replaced set (whole set) depth before name m added raw xs work ≡ Ok x → Joins set depth before ys x (replaced set (whole set) depth before name m added raw (xs ++ ys) work)
 unfolding JoinsBelow
 replaced_joins set ys b below depth before name m added n raw within xs work x h h2 is =
@@ -83,7 +84,7 @@ replaced_joins set ys b below depth before name m added n raw within xs work x h
     let list : List Hidden = map (hide_more added) i.0.toks ++ xs in
     let j = onward_ok {A = Expanded} (whole set depth before list i.0.left) (λ rest. Ok (noted (first_notes name m before ++ i.0.notes) rest)) x i.2 in
     let puts = (put_for_puts b (whole set) (whole set) (whole_below_itself set b) m.form set.path depth before name m n raw within work h).falls i.0 i.1 in
-    let room : i.0.left + length list < b = omega (arith, length-append (map (hide_more added) i.0.toks) xs, length-map i.0.toks (hide_more added)) in
+    let room : i.0.left.left + length list < b = omega (arith, length-append (map (hide_more added) i.0.toks) xs, length-map i.0.toks (hide_more added)) in
     subst (λ v. Joins set depth before ys v (replaced set (whole set) depth before name m added raw (xs ++ ys) work)) (ok_same (noted (first_notes name m before ++ i.0.notes) j.0) x j.2) (λ y apart y_is.
     let k = below depth before list i.0.left j.0 room j.1 y apart y_is in
     ap (λ v. onward v (after (whole set) depth before name m added (xs ++ ys))) i.1
@@ -91,7 +92,7 @@ replaced_joins set ys b below depth before name m added n raw within xs work x h
     ∙ ap (λ v. onward v (λ rest. Ok (noted (first_notes name m before ++ i.0.notes) rest))) k
     ∙ ap (λ notes. Ok (expanded (j.0.toks ++ y.toks) notes y.left)) (sym (append_assoc (first_notes name m before ++ i.0.notes) j.0.notes y.notes)))
 
-called_with_joins : (set : Setting) (ys : List Hidden) (b : ℕ) → JoinsBelow set ys b → (depth before : ℕ) (t : Hidden) (m : Definition) (call : Call) (n work : ℕ) → Shorter n call → work + n < b
+called_with_joins : (set : Setting) (ys : List Hidden) (b : ℕ) → JoinsBelow set ys b → (depth before : ℕ) (t : Hidden) (m : Definition) (call : Call) (n : ℕ) (work : Work) → Shorter n call → work.left + n < b
     → (raw : Option (List (List Hidden))) → arguments_of m call.arguments ≡ raw → (x : Expanded) → called_with set (whole set) depth before t m call work raw ≡ Ok x
     → Joins set depth before ys x (called_with set (whole set) depth before t m (with_rest ys call) work raw)
 called_with_joins set ys b below depth before t m call n work short h None args_are x is = err_ok (WrongArguments t.tok.at) x is
@@ -99,7 +100,7 @@ called_with_joins set ys b below depth before t m call n work short h (Some raw)
     let behind = short.behind in
     replaced_joins set ys b below depth before t.tok m (added_by t call.close) n raw (arguments_within m n call.arguments raw short.each args_are) call.rest work x h (omega arith) is
 
-called_joins : (set : Setting) (ys : List Hidden) (b : ℕ) → JoinsBelow set ys b → (depth before : ℕ) (t : Hidden) (m : Definition) (ts : List Hidden) (work : ℕ) → work + length ts < b
+called_joins : (set : Setting) (ys : List Hidden) (b : ℕ) → JoinsBelow set ys b → (depth before : ℕ) (t : Hidden) (m : Definition) (ts : List Hidden) (work : Work) → work.left + length ts < b
     → (call : Option Call) → call_from ts (commas_of m) 0 ≡ call → (x : Expanded) → called set (whole set) depth before t m work call ≡ Ok x
     → Joins set depth before ys x (called set (whole set) depth before t m work (call_from (ts ++ ys) (commas_of m) 0))
 called_joins set ys b below depth before t m ts work h None call_is x is = err_ok (OpenCall t.tok.at) x is
@@ -108,7 +109,7 @@ called_joins set ys b below depth before t m ts work h (Some call) call_is x is 
     ∙ called_with_joins set ys b below depth before t m call (length ts) work (call_shorter ts (commas_of m) 0 call call_is) h (arguments_of m call.arguments) refl x is y apart y_is
 
 -- a function-like macro's name at the end
-last_joins : (set : Setting) (ys : List Hidden) (depth before : ℕ) (t : Hidden) (m : Definition) (work : ℕ) (x : Expanded) → macro_of set.table t ≡ Some m → is_function m.form ≡ true
+last_joins : (set : Setting) (ys : List Hidden) (depth before : ℕ) (t : Hidden) (m : Definition) (work : Work) (x : Expanded) → macro_of set.table t ≡ Some m → is_function m.form ≡ true
     → stays (whole set) depth before t [] work ≡ Ok x → Joins set depth before ys x (behind_name set (whole set) depth before t m ys work)
 last_joins set ys depth before t m work x is_m fn is =
     let i = onward_ok {A = Expanded} (whole set depth (one_more depth before) [] work) (λ o. Ok (put_out t o)) x is in
@@ -130,8 +131,8 @@ cond_joins : (set : Setting) (depth before : ℕ) (ys : List Hidden) (x : Expand
 cond_joins set depth before ys x true r r2 s s2 h k is = h is
 cond_joins set depth before ys x false r r2 s s2 h k is = k is
 
-function_joins : (set : Setting) (ys : List Hidden) (b : ℕ) → JoinsBelow set ys b → (depth before : ℕ) (t : Hidden) (m : Definition) (xs : List Hidden) (work : ℕ) (x : Expanded)
-    → macro_of set.table t ≡ Some m → is_function m.form ≡ true → work + length xs < b
+function_joins : (set : Setting) (ys : List Hidden) (b : ℕ) → JoinsBelow set ys b → (depth before : ℕ) (t : Hidden) (m : Definition) (xs : List Hidden) (work : Work) (x : Expanded)
+    → macro_of set.table t ≡ Some m → is_function m.form ≡ true → work.left + length xs < b
     → behind_name set (whole set) depth before t m xs work ≡ Ok x → Joins set depth before ys x (behind_name set (whole set) depth before t m (xs ++ ys) work)
 function_joins set ys b below depth before t m [] work x is_m fn h is = last_joins set ys depth before t m work x is_m fn is
 function_joins set ys b below depth before t m (p ∷ ts) work x is_m fn h is =
@@ -141,7 +142,7 @@ function_joins set ys b below depth before t m (p ∷ ts) work x is_m fn h is =
     (λ e. called_joins set ys b below depth before t m ts work (omega arith) (call_from ts (commas_of m) 0) refl x e)
     (λ e. stays_joins set ys b below depth before t (p ∷ ts) work x h e) is
 
-act_joins : (set : Setting) (ys : List Hidden) (b : ℕ) → JoinsBelow set ys b → (depth before : ℕ) (t : Hidden) (xs : List Hidden) (work : ℕ) (x : Expanded) → work + length xs < b
+act_joins : (set : Setting) (ys : List Hidden) (b : ℕ) → JoinsBelow set ys b → (depth before : ℕ) (t : Hidden) (xs : List Hidden) (work : Work) (x : Expanded) → work.left + length xs < b
     → (m : Option Definition) → macro_of set.table t ≡ m → act set (whole set) depth before t xs work m ≡ Ok x → Joins set depth before ys x (act set (whole set) depth before t (xs ++ ys) work m)
 act_joins set ys b below depth before t xs work x h None is_m is = stays_joins set ys b below depth before t xs work x h is
 act_joins set ys b below depth before t xs work x h (Some m) is_m is = by (is_function m.form) refl is
@@ -156,7 +157,7 @@ act_joins set ys b below depth before t xs work x h (Some m) is_m is = by (is_fu
         ap (λ v. cond v (behind_name set (whole set) depth before t m (xs ++ ys) work) (replaced set (whole set) depth before t.tok m (t.hides ++ t.tok.text ∷ []) [] (xs ++ ys) work)) fn
         ∙ replaced_joins set ys b below depth before t.tok m (t.hides ++ t.tok.text ∷ []) 0 [] none xs work x (omega arith) h e y apart y_is
 
-step_joins : (set : Setting) (ys : List Hidden) (b : ℕ) → JoinsBelow set ys b → (depth before : ℕ) (xs : List Hidden) (work : ℕ) (x : Expanded) → work + length xs < suc b
+step_joins : (set : Setting) (ys : List Hidden) (b : ℕ) → JoinsBelow set ys b → (depth before : ℕ) (xs : List Hidden) (work : Work) (x : Expanded) → work.left + length xs < suc b
     → step set (whole set) depth before xs work ≡ Ok x → Joins set depth before ys x (whole set depth before (xs ++ ys) work)
 step_joins set ys b below depth before [] work x h is =
     subst (λ v. Joins set depth before ys v (whole set depth before ys work)) (ok_same (expanded [] [] work) x is)
@@ -174,6 +175,6 @@ joins_below set ys (suc b) = λ depth before xs work x h is. step_joins set ys b
 pub expands_in_parts : ExpandsInParts
 unfolding JoinsBelow
 expands_in_parts = λ set depth before xs ys work x y is apart y_is.
-    let below : (depth before : ℕ) (zs : List Hidden) (work2 : ℕ) (x : Expanded) → work2 + length zs < suc (work + length xs)
-    → whole set depth before zs work2 ≡ Ok x → Joins set depth before ys x (whole set depth before (zs ++ ys) work2) = joins_below set ys (suc (work + length xs)) in
+    let below : (depth before : ℕ) (zs : List Hidden) (work2 : Work) (x : Expanded) → work2.left + length zs < suc (work.left + length xs)
+    → whole set depth before zs work2 ≡ Ok x → Joins set depth before ys x (whole set depth before (zs ++ ys) work2) = joins_below set ys (suc (work.left + length xs)) in
     below depth before xs work x (omega arith) is y apart y_is

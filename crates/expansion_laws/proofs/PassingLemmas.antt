@@ -27,6 +27,7 @@ rules_pass p set notes blind macros made = record {
       (toks_pass (λ t. p (standing_at name t)) m.body (macros.bodies name m here found))
       (λ t h gap. blind (standing_at name t) gap false h);
   lines = λ name m before here found is brought. macros.lines name m before here found is brought;
+  numbers = λ name n here low brought. macros.numbers name n here low brought;
   paths = λ name m here found is. macros.paths name m here found is;
   strings = λ name gap toks s here all is. blind (standing_at name s) gap false (made.strings name toks s here (pass_toks p toks all) is);
   pastes = λ name x y z here px py is told. blind (standing_at name z) x.gap false (made.pastes name x y z here px py is);
@@ -34,6 +35,7 @@ rules_pass p set notes blind macros made = record {
   linked = λ name m here is found links. let other = macros.names name.text m found links in rw (here, other) refl;
   stringized = λ toks s all is. pass_toks p toks all;
   pasted = λ name x y z px py pz is. rw (px, py, pz) refl;
+  counted = λ name n here z. z;
 }
 
 pub tests_are_kept : TestsAreKept

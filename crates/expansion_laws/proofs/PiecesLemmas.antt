@@ -90,6 +90,7 @@ rules_whole among files set notes quote macros = record {
   bodies = λ name m here found. each_tok (λ t. (gap : Bool) → IsWhole among files (put_in name gap t)) m.body
       (λ t k at gap. whole_as among files t (put_in name gap t) refl refl (macros.bodies name.text m found t (k, at)));
   lines = λ name m before here found is brought. macros.lines name m before found is brought;
+  numbers = λ name n here low brought. macros.numbers name n brought;
   paths = λ name m here found is. λ h. absurd (quoted_fails among _ _ quote refl h);
   strings = λ name gap toks s here all is. string_whole among files name gap toks s quote is;
   pastes = λ name x y z here px py is told. pasted_whole among files name x y z px py is;
@@ -97,6 +98,7 @@ rules_whole among files set notes quote macros = record {
   linked = λ name m here is found links. (here, macros.names name.text m found links);
   stringized = λ toks s all is. λ t at. toks_at (IsWhole among files) toks all t at.0 at.1;
   pasted = λ name x y z px py pz is. (px, py, pz);
+  counted = λ name n here z. z;
 }
 
 pub tokens_are_whole : TokensAreWhole
@@ -124,6 +126,7 @@ rules_stand run set = record {
   moved = λ t h. stands_there run t (record t { direct = false }) h refl refl;
   bodies = λ name m here found. each_tok (λ t. (gap : Bool) → StandsWith run (put_in name gap t)) m.body (λ t k at gap. stands_there run name (put_in name gap t) here refl refl);
   lines = λ name m before here found is brought. stands_there run name _ here refl refl;
+  numbers = λ name n here low brought. stands_there run name _ here refl refl;
   paths = λ name m here found is. stands_there run name _ here refl refl;
   strings = λ name gap toks s here all is. stands_there run name (put_in name gap s) here refl refl;
   pastes = λ name x y z here px py is told. stands_there run name (put_in name x.gap z) here refl refl;
@@ -131,6 +134,7 @@ rules_stand run set = record {
   linked = λ name m here is found links. tt;
   stringized = λ toks s all is. tt;
   pasted = λ name x y z px py pz is. tt;
+  counted = λ name n here z. tt;
 }
 
 pub places_are_of_the_run : PlacesAreOfTheRun

@@ -5,6 +5,7 @@ use Rattle.std.specs.Prelude.{sum_by}
 use Rattle.std.proofs.lemmas.List.Sums.{sum_by-cons}
 use Rattle.std.proofs.lemmas.List.{map-append}
 use Rattle.line_shape.specs.Signs.{is_open}
+use Rattle.macro_body.specs.declared.notes.Work.{Work}
 use Rattle.macro_body.specs.Hides.{Hidden}
 use Rattle.macro_body.specs.Macro.{Table}
 use Rattle.macro_body.specs.Notes.{Note, expanded}
@@ -49,7 +50,7 @@ open_again set depth [] all = refl
 open_again set depth (p ∷ ps) all =
     open_behind false p.loose p.again p.toks (flat_map (λ (q : Portion). q.again) ps) (flat_map (λ (q : Portion). q.toks) ps) all.0.alike (open_again set depth ps all.2)
 
-compose : ExpandsInParts → (set : Setting) (depth before work : ℕ) (ps : List Portion) → ArePortions set depth ps → costs_of ps ≤ work → Composes set depth before work ps
+compose : ExpandsInParts → (set : Setting) (depth before : ℕ) (work : Work) (ps : List Portion) → ArePortions set depth ps → costs_of ps ≤ work.left → Composes set depth before work ps
 unfolding costs_of
 compose in_parts set depth before work [] all room = record {
   parts = [];
@@ -59,6 +60,7 @@ compose in_parts set depth before work [] all room = record {
   toks = refl;
   notes = refl;
   cost = omega arith;
+  counter = refl;
 }
 compose in_parts set depth before work (p ∷ ps) all room =
     let is = all.0 in
@@ -81,6 +83,7 @@ compose in_parts set depth before work (p ∷ ps) all room =
           map-append (plain_note false) k.0.notes c.out.notes ∙ ap (λ (l : List Note). l ++ map (plain_note false) c.out.notes) k.2.notes
           ∙ ap (λ (l : List Note). map (plain_note false) p.out.notes ++ l) c.notes;
       cost = omega arith;
+      counter = c.counter ∙ k.2.counters.1;
     }
 
 pub portions_compose : ExpandsInParts → PortionsCompose

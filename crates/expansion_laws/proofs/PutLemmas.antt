@@ -1,6 +1,8 @@
 -- What macros put in is not direct.
-use Rattle.std.proofs.Common.{◌≡◌, ℕ, Bool, true, false, List, [], ◌∷◌, ◌++◌, map, get_or, Result, Ok, Err, refl, subst, length, nat_lt, ◌-◌}
+use Rattle.std.proofs.Common.{◌≡◌, ℕ, Bool, true, false, List, [], ◌∷◌, ◌++◌, map, get_or, Result, Ok, Err, refl, subst, length, nat_lt, ◌+◌, ◌-◌}
+use Rattle.cs_base.specs.Limits.{most_bytes}
 use Rattle.cs_base.specs.Token.{Token}
+use Rattle.macro_body.specs.declared.notes.Work.{Work}
 use Rattle.macro_body.specs.Below.paste_origin.Pasting.{PasteFault, glue_of}
 use Rattle.macro_body.specs.Below.paste_origin.Strings.{StringFault, stringize_of}
 use Rattle.macro_body.specs.declared.definitions.Form.{Form}
@@ -8,10 +10,10 @@ use Rattle.macro_body.specs.declared.definitions.Form.TheVariants as form
 use Rattle.macro_body.specs.declared.definitions.Definition.{Definition}
 use Rattle.macro_body.specs.Hides.{Hidden, hidden, in_both, toks_of}
 use Rattle.macro_body.specs.Bodies.{Part, Plain, Param, Quote, Paste, Rest, chains_of}
-use Rattle.macro_body.specs.Notes.{Fault, NotOneToken, NotAString, TooMuchWork, Stringized, Pasted, Expanded, expanded, noted, onward}
-use Rattle.macro_body.specs.Substitution.{Arguments, Made, made, made_both, put_in, moved_in, with_gap, argument_for, rest_tokens, rest_for, is_alone, string_made, operand_made, operands_made, chains_made, token_pasted, pasted_behind, two_pasted, chain_pasted, chains_pasted, result_of, cost_of, line_number, path_string}
-use Rattle.macro_expand.specs.Expansion.{Next, Full, full_from, spent, substituted, put_for}
-use Rattle.macro_body.proofs.ResultLemmas.{ok_same, err_ok, onward_ok, cond_ok}
+use Rattle.macro_body.specs.Notes.{Note, Fault, NotOneToken, NotAString, TooMuchWork, Stringized, Pasted, Expanded, expanded, noted, Counted, onward}
+use Rattle.macro_body.specs.Substitution.{Arguments, Made, made, made_both, put_in, moved_in, with_gap, argument_for, rest_tokens, rest_for, is_alone, string_made, operand_made, operands_made, chains_made, token_pasted, pasted_behind, two_pasted, chain_pasted, chains_pasted, result_of, cost_of, number_token, line_number, path_string}
+use Rattle.macro_expand.specs.Expansion.{Next, Full, full_from, spent, numbered, substituted, put_for}
+use Rattle.macro_body.proofs.ResultLemmas.{ok_same, err_ok, onward_ok, cond_ok, cond_ok_yes}
 use Rattle.expansion_laws.proofs.ListLemmas.{AllHidden, AllLists, hidden_both}
 
 -- a token that a macro put in
@@ -123,17 +125,18 @@ result_put name args cs m e =
     subst (λ (v : Made (List Hidden)). AllHidden IsPut v.value) (ok_same (made (with_gap name.gap j.0.value) (i.0.notes ++ j.0.notes)) m j.2)
     (gap_put name.gap j.0.value (pasted_put name i.0.value (chains_put name args cs i.0 i.1) j.0 j.1))
 
-spent_put : (name : Token) (cost work : ℕ) (r : Result (Made (List Hidden)) Fault) → ((m : Made (List Hidden)) → r ≡ Ok m → AllHidden IsPut m.value)
+spent_put : (name : Token) (cost : ℕ) (work : Work) (r : Result (Made (List Hidden)) Fault) → ((m : Made (List Hidden)) → r ≡ Ok m → AllHidden IsPut m.value)
     → (e : Expanded) → spent name cost work r ≡ Ok e → AllHidden IsPut e.toks
 spent_put name cost work r all e is =
-    let c = cond_ok (nat_lt work cost) (TooMuchWork name.at) (onward r (λ m. Ok (expanded m.value m.notes (work - cost)))) e is in
-    let i = onward_ok {A = Made (List Hidden)} r (λ m. Ok (expanded m.value m.notes (work - cost))) e c.1 in
-    subst (λ (v : Expanded). AllHidden IsPut v.toks) (ok_same (expanded i.0.value i.0.notes (work - cost)) e i.2) (all i.0 i.1)
+    let c = cond_ok (nat_lt work.left cost) (TooMuchWork name.at) (onward r (λ m. Ok (expanded m.value m.notes (record work { left = work.left - cost })))) e is in
+    let i = onward_ok {A = Made (List Hidden)} r (λ m. Ok (expanded m.value m.notes (record work { left = work.left - cost }))) e c.1 in
+    subst (λ (v : Expanded). AllHidden IsPut v.toks) (ok_same (expanded i.0.value i.0.notes (record work { left = work.left - cost })) e i.2) (all i.0 i.1)
 
-one_put : (x : Hidden) → x.tok.direct ≡ false → (m : Made (List Hidden)) → ◌≡◌ {A = Result (Made (List Hidden)) Fault} (Ok (made (x ∷ []) [])) (Ok m) → AllHidden IsPut m.value
-one_put x h m e = subst (λ (v : Made (List Hidden)). AllHidden IsPut v.value) (ok_same (made (x ∷ []) []) m e) (h, tt)
+one_put : (x : Hidden) (notes : List Note) → x.tok.direct ≡ false → (m : Made (List Hidden)) → ◌≡◌ {A = Result (Made (List Hidden)) Fault} (Ok (made (x ∷ []) notes)) (Ok m)
+    → AllHidden IsPut m.value
+one_put x notes h m e = subst (λ (v : Made (List Hidden)). AllHidden IsPut v.value) (ok_same (made (x ∷ []) notes) m e) (h, tt)
 
-substituted_put : (next : Next) (depth before : ℕ) (name : Token) (m : Definition) (raw : List (List Hidden)) (work : ℕ) (e : Expanded)
+substituted_put : (next : Next) (depth before : ℕ) (name : Token) (m : Definition) (raw : List (List Hidden)) (work : Work) (e : Expanded)
     → substituted next depth before name m raw work ≡ Ok e → AllHidden IsPut e.toks
 substituted_put next depth before name m raw work e is =
     let made_of : List (List Hidden) → Result (Made (List Hidden)) Fault = λ lists. result_of name (record { raw = raw; full = lists }) (chains_of m) in
@@ -144,9 +147,13 @@ substituted_put next depth before name m raw work e is =
     subst (λ (v : Expanded). AllHidden IsPut v.toks) (ok_same (noted i.0.notes j.0) e j.2)
     (spent_put name cost i.0.left (made_of i.0.lists) (λ v vs. result_put name (record { raw = raw; full = i.0.lists }) (chains_of m) v vs) j.0 j.1)
 
-pub put_for_put : (form : Form) (path : List ℕ) (next : Next) (depth before : ℕ) (name : Token) (m : Definition) (raw : List (List Hidden)) (work : ℕ) (e : Expanded)
+pub put_for_put : (form : Form) (path : List ℕ) (next : Next) (depth before : ℕ) (name : Token) (m : Definition) (raw : List (List Hidden)) (work : Work) (e : Expanded)
     → put_for form path next depth before name m raw work ≡ Ok e → AllHidden IsPut e.toks
-put_for_put form.Line path next depth before name m raw work e is = spent_put name 1 work _ (one_put (hidden (line_number name) []) refl) e is
-put_for_put form.File path next depth before name m raw work e is = spent_put name 1 work _ (one_put (hidden (path_string path name) []) refl) e is
+put_for_put form.Line path next depth before name m raw work e is = spent_put name 1 work _ (one_put (hidden (line_number name) []) [] refl) e is
+put_for_put form.File path next depth before name m raw work e is = spent_put name 1 work _ (one_put (hidden (path_string path name) []) [] refl) e is
+put_for_put form.Counter path next depth before name m raw work e is =
+    let t : Token = number_token name work.counter in
+    let c = cond_ok_yes (nat_lt work.counter most_bytes) (TooMuchWork name.at) (numbered name work) e is in
+    spent_put name 1 (record work { counter = work.counter + 1 }) _ (one_put (hidden t []) (Counted t ∷ []) refl) e c.1
 put_for_put form.Object path next depth before name m raw work e is = substituted_put next depth before name m raw work e is
 put_for_put form.Function path next depth before name m raw work e is = substituted_put next depth before name m raw work e is

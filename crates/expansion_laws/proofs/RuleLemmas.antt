@@ -1,5 +1,6 @@
 -- What an expansion keeps true of its tokens and of what happens in it, and what is made in a replacement.
 use Rattle.std.proofs.Common.{◌≡◌, ℕ, Bool, true, false, nat_lt, List, [], ◌∷◌, ◌++◌, length, map, get_or, Option, Some, None, Result, Ok, Err, is_some, refl, subst}
+use Rattle.cs_base.specs.Limits.{most_bytes}
 use Rattle.cs_base.specs.Token.{Token}
 use Rattle.line_shape.specs.Signs.{is_name, is_paste}
 use Rattle.macro_body.specs.Below.paste_origin.Pasting.{PasteFault, glue_of}
@@ -10,8 +11,8 @@ use Rattle.macro_body.specs.Hides.{Hidden, hidden, in_both, toks_of}
 use Rattle.macro_body.specs.Macro.{parameter_at}
 use Rattle.macro_body.specs.Bodies.{Part, Plain, Param, Quote, Paste, Rest, quoted_parameter, param_or_plain, lone_part, quote_or, parts_from, is_operator, pasted_to, chains_in, rest_or_chain, chains_of}
 use Rattle.macro_body.proofs.ChainLemmas.{rest_by}
-use Rattle.macro_body.specs.Notes.{Fault, Note, Replaced, Linked, Stringized, Pasted, onward}
-use Rattle.macro_body.specs.Substitution.{Arguments, Made, made, made_both, with_gap, put_in, moved_in, argument_for, rest_tokens, rest_for, is_alone, string_made, operand_made, operands_made, chains_made, token_pasted, pasted_behind, two_pasted, chain_pasted, chains_pasted, result_of, line_number, path_string}
+use Rattle.macro_body.specs.Notes.{Fault, Note, Counted, Replaced, Linked, Stringized, Pasted, onward}
+use Rattle.macro_body.specs.Substitution.{Arguments, Made, made, made_both, with_gap, put_in, moved_in, argument_for, rest_tokens, rest_for, is_alone, string_made, operand_made, operands_made, chains_made, token_pasted, pasted_behind, two_pasted, chain_pasted, chains_pasted, result_of, number_token, line_number, path_string}
 use Rattle.macro_expand.specs.Expansion.{Setting, links_name}
 use Rattle.macro_body.proofs.ResultLemmas.{ok_same, err_ok, onward_ok}
 use Rattle.macro_expand.proofs.CallLemmas.{cond_has}
@@ -26,6 +27,7 @@ pub record Rules (P : Token → Type 0) (M N : Note → Type 0) (set : Setting) 
   -- tokens from elsewhere
   pub bodies : (name : Token) (m : Definition) → P name → set.table name.text ≡ Some m → AllToks (λ t. (gap : Bool) → P (put_in name gap t)) m.body
   pub lines : (name : Token) (m : Definition) (before : ℕ) → P name → set.table name.text ≡ Some m → m.form ≡ form.Line → M (Replaced name m.name before) → P (line_number name)
+  pub numbers : (name : Token) (n : ℕ) → P name → nat_lt n most_bytes ≡ true → M (Counted (number_token name n)) → P (number_token name n)
   pub paths : (name : Token) (m : Definition) → P name → set.table name.text ≡ Some m → m.form ≡ form.File → P (path_string set.path name)
   -- tokens that are made
   pub strings : (name : Token) (gap : Bool) (toks : List Token) (s : Token) → P name → AllToks P toks → stringize_of toks ≡ Ok s → P (put_in name gap s)
@@ -35,6 +37,7 @@ pub record Rules (P : Token → Type 0) (M N : Note → Type 0) (set : Setting) 
   pub linked : (name : Token) (m : Definition) → P name → is_name name ≡ true → set.table name.text ≡ Some m → links_name m.form ≡ true → N (Linked name m.name)
   pub stringized : (toks : List Token) (s : Token) → AllToks P toks → stringize_of toks ≡ Ok s → N (Stringized toks s)
   pub pasted : (name x y z : Token) → P x → P y → P (put_in name x.gap z) → glue_of x y ≡ Ok z → N (Pasted x y (put_in name x.gap z))
+  pub counted : (name : Token) (n : ℕ) → P name → P (number_token name n) → N (Counted (number_token name n))
 
 -- Replacement lists.
 

@@ -1,5 +1,6 @@
 -- A run falls into sections.
 use Rattle.std.proofs.Common.{◌≡◌, ℕ, suc, List, [], ◌∷◌, ◌++◌, length, None, Result, Ok, refl, ap, ◌∙◌, append-nil}
+use Rattle.macro_body.specs.declared.notes.Work.{Work}
 use Rattle.macro_body.specs.Hides.{Hidden}
 use Rattle.macro_body.specs.Notes.{Fault, Note, Expanded, expanded, put_out, onward}
 use Rattle.macro_expand.specs.Expansion.{Setting, one_more, act, macro_of, whole}
@@ -9,13 +10,13 @@ use Rattle.expansion_laws.specs.Sections.{Section, laid_out, AreSigns, Fallen, F
 use Rattle.expansion_laws.proofs.SplitLemmas.{expansion_splits}
 
 -- a token that no macro replaces is expanded to itself
-pub sign_alone : (set : Setting) (depth before : ℕ) (t : Hidden) (work : ℕ) → macro_of set.table t ≡ None → whole set depth before (t ∷ []) work ≡ Ok (expanded (t ∷ []) [] work)
+pub sign_alone : (set : Setting) (depth before : ℕ) (t : Hidden) (work : Work) → macro_of set.table t ≡ None → whole set depth before (t ∷ []) work ≡ Ok (expanded (t ∷ []) [] work)
 sign_alone set depth before t work is =
     whole_is_step set depth before (t ∷ []) work
     ∙ ap (act set (whole set) depth before t [] work) is
     ∙ ap (λ (r : Result Expanded Fault). onward r (λ o. Ok (put_out t o))) (whole_is_step set depth (one_more depth before) [] work)
 
-fall : (set : Setting) (depth before : ℕ) (ts : List Hidden) (work : ℕ) (e : Expanded) (ss : List Section) (last : List Hidden)
+fall : (set : Setting) (depth before : ℕ) (ts : List Hidden) (work : Work) (e : Expanded) (ss : List Section) (last : List Hidden)
     → whole set depth before ts work ≡ Ok e → e.toks ≡ laid_out ss last → AreSigns set.table ss
     → (fs : List Fallen) × (end : Fallen) × FallsInto set depth ts work e ss last fs end
 unfolding laid_out

@@ -5,17 +5,19 @@ use Rattle.std.specs.Option.{is_none}
 use Rattle.std.specs.List.{list_all}
 use Rattle.std.specs.Fmt.{decimal}
 use Rattle.std.proofs.lemmas.List.{map-append}
+use Rattle.cs_base.specs.Limits.{most_bytes}
 use Rattle.cs_base.specs.Token.{Token, token}
 use Rattle.cs_base.specs.declared.tokens.Kind.TheVariants.{Number, Str}
 use Rattle.cs_base.specs.declared.positions.Pos.{Pos}
+use Rattle.macro_body.specs.declared.notes.Work.{Work}
 use Rattle.macro_body.specs.declared.definitions.Form.{Form}
 use Rattle.macro_body.specs.declared.definitions.Form.TheVariants as form
 use Rattle.macro_body.specs.declared.definitions.Definition.{Definition}
 use Rattle.macro_body.specs.Hides.{Hidden, hidden}
 use Rattle.macro_body.specs.Bodies.{Part, chains_of, occurs_alone}
-use Rattle.macro_body.specs.Notes.{Fault, TooMuchWork, TooDeep, Expanded, expanded, put_out, noted, onward}
-use Rattle.macro_body.specs.Substitution.{Arguments, Made, made, cost_of, result_of, line_number, path_string, path_text, digit_origins}
-use Rattle.macro_expand.specs.Expansion.{Next, most_depth, one_more, stays, Full, full, with_full, without_full, alone, full_step, full_from, spent, substituted, put_for}
+use Rattle.macro_body.specs.Notes.{Counted, Fault, TooMuchWork, TooDeep, Expanded, expanded, put_out, noted, onward}
+use Rattle.macro_body.specs.Substitution.{Arguments, Made, made, cost_of, result_of, number_token, line_number, path_string, path_text, digit_origins}
+use Rattle.macro_expand.specs.Expansion.{Next, most_depth, one_more, stays, Full, full, with_full, without_full, alone, full_step, full_from, spent, numbered, substituted, put_for}
 use Rattle.macro_expand.specs.Renaming.{renamed, renamed_hidden, renamed_macro, renamed_note, renamed_expansion, occurs, AllRespected, KeepsBody}
 use Rattle.macro_body.proofs.ResultLemmas.{ok_same, onward_ok, cond_ok, cond_ok_yes}
 use Rattle.macro_expand.proofs.CallLemmas.{AllWithin, none, more}
@@ -31,11 +33,11 @@ Followed w e res = (res ≡ Ok (renamed_expansion w.r e)) × Good w e.toks
 
 -- one expansion follows another on fewer than b tokens and steps of work together
 unfoldable pub Follows : World → ℕ → Next → Next → Type 0
-Follows w b f g = (depth before : ℕ) (ts : List Hidden) (work : ℕ) (e : Expanded) → work + length ts < b → Good w ts
+Follows w b f g = (depth before : ℕ) (ts : List Hidden) (work : Work) (e : Expanded) → work.left + length ts < b → Good w ts
     → f depth before ts work ≡ Ok e → AllRespected w.o w.r e.notes → Followed w e (g depth before (map (renamed_hidden w.r) ts) work)
 
-pub stays_follows : (w : World) (b : ℕ) (f g : Next) → Follows w b f g → (depth before : ℕ) (t : Hidden) (ts : List Hidden) (work : ℕ) (e : Expanded)
-    → work + length ts < b → Good w (t ∷ ts) → stays f depth before t ts work ≡ Ok e → AllRespected w.o w.r e.notes
+pub stays_follows : (w : World) (b : ℕ) (f g : Next) → Follows w b f g → (depth before : ℕ) (t : Hidden) (ts : List Hidden) (work : Work) (e : Expanded)
+    → work.left + length ts < b → Good w (t ∷ ts) → stays f depth before t ts work ≡ Ok e → AllRespected w.o w.r e.notes
     → Followed w e (stays g depth before (renamed_hidden w.r t) (map (renamed_hidden w.r) ts) work)
 unfolding Follows
 stays_follows w b f g follows depth before t ts work e h good is resp =
@@ -54,8 +56,8 @@ full_renamed w f = full (renamed_lists w.r f.lists) (notes_renamed w f.notes) f.
 abbrev FullFollowed : World → Full → Result Full Fault → Type 0
 FullFollowed w f res = (res ≡ Ok (full_renamed w f)) × GoodLists w f.lists
 
-alone_follows : (w : World) (b : ℕ) (f g : Next) → Follows w b f g → (depth before : ℕ) (name : Token) (a : List Hidden) (work : ℕ) (e : Expanded)
-    → work + length a < b → Good w a → alone f depth before name a work ≡ Ok e → AllRespected w.o w.r e.notes
+alone_follows : (w : World) (b : ℕ) (f g : Next) → Follows w b f g → (depth before : ℕ) (name : Token) (a : List Hidden) (work : Work) (e : Expanded)
+    → work.left + length a < b → Good w a → alone f depth before name a work ≡ Ok e → AllRespected w.o w.r e.notes
     → Followed w e (alone g depth before (renamed w.r name) (map (renamed_hidden w.r) a) work)
 unfolding Follows
 alone_follows w b f g follows depth before name a work e h good is resp =
@@ -63,10 +65,10 @@ alone_follows w b f g follows depth before name a work e h good is resp =
     let k = follows (suc depth) before a work e h good c.1 resp in
     (ap (λ t. cond t (g (suc depth) before (map (renamed_hidden w.r) a) work) (Err (TooDeep (renamed w.r name).at))) c.0 ∙ k.0, k.1)
 
-full_step_follows : (w : World) (b : ℕ) (f g : Next) → Follows w b f g → (wanted : Bool) (depth before : ℕ) (name : Token) (a : List Hidden) (work : ℕ)
-    → (rest rest2 : ℕ → Result Full Fault) → work + length a < b → Good w a
-    → ((e : Expanded) → alone f depth before name a work ≡ Ok e → e.left ≤ work)
-    → ((left : ℕ) (v : Full) → left ≤ work → rest left ≡ Ok v → AllRespected w.o w.r v.notes → FullFollowed w v (rest2 left))
+full_step_follows : (w : World) (b : ℕ) (f g : Next) → Follows w b f g → (wanted : Bool) (depth before : ℕ) (name : Token) (a : List Hidden) (work : Work)
+    → (rest rest2 : Work → Result Full Fault) → work.left + length a < b → Good w a
+    → ((e : Expanded) → alone f depth before name a work ≡ Ok e → e.left.left ≤ work.left)
+    → ((left : Work) (v : Full) → left.left ≤ work.left → rest left ≡ Ok v → AllRespected w.o w.r v.notes → FullFollowed w v (rest2 left))
     → (v : Full) → full_step wanted f depth before name a work rest ≡ Ok v → AllRespected w.o w.r v.notes
     → FullFollowed w v (full_step wanted g depth before (renamed w.r name) (map (renamed_hidden w.r) a) work rest2)
 full_step_follows w b f g follows false depth before name a work rest rest2 h good falls behind v is resp =
@@ -92,7 +94,7 @@ full_step_follows w b f g follows true depth before name a work rest rest2 h goo
     resp
 
 full_from_follows : (w : World) (b : ℕ) (f g : Next) → Below b f f → Follows w b f g → (depth before : ℕ) (name : Token) (chains : List (List Part)) (i n : ℕ)
-    → (lists : List (List Hidden)) → AllWithin n lists → GoodLists w lists → (work : ℕ) → work + n < b → (v : Full)
+    → (lists : List (List Hidden)) → AllWithin n lists → GoodLists w lists → (work : Work) → work.left + n < b → (v : Full)
     → full_from f depth before name chains i lists work ≡ Ok v → AllRespected w.o w.r v.notes
     → FullFollowed w v (full_from g depth before (renamed w.r name) (renamed_chains w.r chains) i (renamed_lists w.r lists) work)
 unfolding Below
@@ -100,7 +102,7 @@ full_from_follows w b f g below follows depth before name chains i n [] none goo
     let P : Full → Type 0 = λ x. FullFollowed w x (Ok (full [] [] work)) in
     subst P (ok_same (full [] [] work) v is) (refl, tt)
 full_from_follows w b f g below follows depth before name chains i n (a ∷ lists) (more here behind) good work h v is resp =
-    let falls : (e : Expanded) → alone f depth before name a work ≡ Ok e → e.left ≤ work =
+    let falls : (e : Expanded) → alone f depth before name a work ≡ Ok e → e.left.left ≤ work.left =
     λ e e_is. (below (suc depth) before a work (omega arith)).falls e (cond_ok_yes (nat_lt depth most_depth) (TooDeep name.at) (f (suc depth) before a work) e e_is).1 in
     let k = full_step_follows w b f g follows (occurs_alone i chains) depth before name a work
     (full_from f depth before name chains (suc i) lists)
@@ -115,21 +117,21 @@ full_from_follows w b f g below follows depth before name chains i n (a ∷ list
 
 -- Replacements.
 
-spent_follows : (w : World) (name : Token) (cost work : ℕ) (r r2 : Result (Made (List Hidden)) Fault)
+spent_follows : (w : World) (name : Token) (cost : ℕ) (work : Work) (r r2 : Result (Made (List Hidden)) Fault)
     → ((m : Made (List Hidden)) → r ≡ Ok m → AllRespected w.o w.r m.notes → IsMade w m r2)
     → (e : Expanded) → spent name cost work r ≡ Ok e → AllRespected w.o w.r e.notes → Followed w e (spent (renamed w.r name) cost work r2)
 spent_follows w name cost work r r2 is_made e is resp =
-    let put : Made (List Hidden) → Result Expanded Fault = λ m. Ok (expanded m.value m.notes (work - cost)) in
-    let c = cond_ok (nat_lt work cost) (TooMuchWork name.at) (onward r put) e is in
+    let put : Made (List Hidden) → Result Expanded Fault = λ m. Ok (expanded m.value m.notes (record work { left = work.left - cost })) in
+    let c = cond_ok (nat_lt work.left cost) (TooMuchWork name.at) (onward r put) e is in
     let i = onward_ok {A = Made (List Hidden)} r put e c.1 in
     let P : Expanded → Type 0 = λ v. AllRespected w.o w.r v.notes → Followed w v (spent (renamed w.r name) cost work r2) in
-    subst P (ok_same (expanded i.0.value i.0.notes (work - cost)) e i.2) (λ n.
+    subst P (ok_same (expanded i.0.value i.0.notes (record work { left = work.left - cost })) e i.2) (λ n.
     let k = is_made i.0 i.1 n in
     (ap (λ t. cond t (Err (TooMuchWork (renamed w.r name).at)) (onward r2 put)) c.0 ∙ ap (λ v. onward v put) k.0, k.1))
     resp
 
 substituted_follows : (w : World) (b : ℕ) (f g : Next) → Below b f f → Follows w b f g → (depth before : ℕ) (name : Token) (m : Definition) (n : ℕ)
-    → KeepsBody w.o w.r m m.body → (raw : List (List Hidden)) → AllWithin n raw → GoodLists w raw → (work : ℕ) → work + n < b → (e : Expanded)
+    → KeepsBody w.o w.r m m.body → (raw : List (List Hidden)) → AllWithin n raw → GoodLists w raw → (work : Work) → work.left + n < b → (e : Expanded)
     → substituted f depth before name m raw work ≡ Ok e → AllRespected w.o w.r e.notes
     → Followed w e (substituted g depth before (renamed w.r name) (renamed_macro w.r m) (renamed_lists w.r raw) work)
 substituted_follows w b f g below follows depth before name m n body raw within good work h e is resp =
@@ -157,12 +159,12 @@ substituted_follows w b f g below follows depth before name m n body raw within 
     ))
     resp
 
--- the number that stands for a line stays
-line_stays : (w : World) (name : Token) → line_number (renamed w.r name) ≡ renamed w.r (line_number name)
-line_stays w name =
-    let k = w.keeps.numbers (8 * name.line) (length (decimal name.line)) (decimal name.line) in
-    ap (λ text. token Number text (digit_origins (8 * name.line) (length (decimal name.line))) name.gap (w.r.move name.at) name.line false) (sym k.0)
-    ∙ ap (λ origins. token Number (w.r.spell (digit_origins (8 * name.line) (length (decimal name.line))) (decimal name.line)) origins name.gap (w.r.move name.at) name.line false) (sym k.1)
+-- a number that stands for a name stays
+number_stays : (w : World) (name : Token) (n : ℕ) → number_token (renamed w.r name) n ≡ renamed w.r (number_token name n)
+number_stays w name n =
+    let k = w.keeps.numbers (8 * n) (length (decimal n)) (decimal n) in
+    ap (λ text. token Number text (digit_origins (8 * n) (length (decimal n))) name.gap (w.r.move name.at) name.line false) (sym k.0)
+    ∙ ap (λ origins. token Number (w.r.spell (digit_origins (8 * n) (length (decimal n))) (decimal n)) origins name.gap (w.r.move name.at) name.line false) (sym k.1)
 
 abbrev nones : ℕ → List (Option Pos)
 nones n = replicate n None
@@ -185,16 +187,30 @@ one_made w t t2 same here m e resp =
     let P : Made (List Hidden) → Type 0 = λ v. IsMade w v (Ok (made (hidden t2 [] ∷ []) [])) in
     subst P (ok_same (made (hidden t [] ∷ []) []) m e) (ap (λ v. Ok (made (hidden v [] ∷ []) [])) same, (here, tt, tt))
 
+one_counted : (w : World) (t t2 : Token) → t2 ≡ renamed w.r t → occurs w.o t ≡ true → (m : Made (List Hidden))
+    → ◌≡◌ {A = Result (Made (List Hidden)) Fault} (Ok (made (hidden t [] ∷ []) (Counted t ∷ []))) (Ok m) → AllRespected w.o w.r m.notes
+    → IsMade w m (Ok (made (hidden t2 [] ∷ []) (Counted t2 ∷ [])))
+one_counted w t t2 same here m e resp =
+    let P : Made (List Hidden) → Type 0 = λ v. IsMade w v (Ok (made (hidden t2 [] ∷ []) (Counted t2 ∷ []))) in
+    subst P (ok_same (made (hidden t [] ∷ []) (Counted t ∷ [])) m e) (ap (λ v. Ok (made (hidden v [] ∷ []) (Counted v ∷ []))) same, (here, tt, tt))
+
 pub put_for_follows : (w : World) (b : ℕ) (f g : Next) → Below b f f → Follows w b f g → (form : Form) (path : List ℕ) (depth before : ℕ) (name : Token) (m : Definition) (n : ℕ)
-    → KeepsBody w.o w.r m m.body → (raw : List (List Hidden)) → AllWithin n raw → GoodLists w raw → (work : ℕ) → work + n < b → (e : Expanded)
+    → KeepsBody w.o w.r m m.body → (raw : List (List Hidden)) → AllWithin n raw → GoodLists w raw → (work : Work) → work.left + n < b → (e : Expanded)
     → put_for form path f depth before name m raw work ≡ Ok e → AllRespected w.o w.r e.notes
     → Followed w e (put_for form path g depth before (renamed w.r name) (renamed_macro w.r m) (renamed_lists w.r raw) work)
 put_for_follows w b f g below follows form.Line path depth before name m n body raw within good work h e is resp =
     spent_follows w name 1 work (Ok (made (hidden (line_number name) [] ∷ []) [])) (Ok (made (hidden (line_number (renamed w.r name)) [] ∷ []) []))
-    (one_made w (line_number name) (line_number (renamed w.r name)) (line_stays w name) (w.keeps.others Number _ _ refl refl)) e is resp
+    (one_made w (line_number name) (line_number (renamed w.r name)) (number_stays w name name.line) (w.keeps.others Number _ _ refl refl)) e is resp
 put_for_follows w b f g below follows form.File path depth before name m n body raw within good work h e is resp =
     spent_follows w name 1 work (Ok (made (hidden (path_string path name) [] ∷ []) [])) (Ok (made (hidden (path_string path (renamed w.r name)) [] ∷ []) []))
     (one_made w (path_string path name) (path_string path (renamed w.r name)) (path_stays w path name) (w.keeps.others Str _ _ refl refl)) e is resp
+put_for_follows w b f g below follows form.Counter path depth before name m n body raw within good work h e is resp =
+    let t : Token = number_token name work.counter in
+    let t2 : Token = number_token (renamed w.r name) work.counter in
+    let c = cond_ok_yes (nat_lt work.counter most_bytes) (TooMuchWork name.at) (numbered name work) e is in
+    let k = spent_follows w name 1 (record work { counter = work.counter + 1 }) (Ok (made (hidden t [] ∷ []) (Counted t ∷ []))) (Ok (made (hidden t2 [] ∷ []) (Counted t2 ∷ [])))
+    (one_counted w t t2 (number_stays w name work.counter) (w.keeps.others Number _ _ refl refl)) e c.1 resp in
+    (ap (λ b. cond b (numbered (renamed w.r name) work) (Err (TooMuchWork (renamed w.r name).at))) c.0 ∙ k.0, k.1)
 put_for_follows w b f g below follows form.Object path depth before name m n body raw within good work h e is resp =
     substituted_follows w b f g below follows depth before name m n body raw within good work h e is resp
 put_for_follows w b f g below follows form.Function path depth before name m n body raw within good work h e is resp =

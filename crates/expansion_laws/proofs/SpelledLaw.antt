@@ -4,8 +4,9 @@ use Rattle.std.specs.Fmt.{decimal}
 use Rattle.std.specs.Str.Parse.{AllDigits}
 use Rattle.std.proofs.lemmas.Fmt.{decimal_is_IsNumeral}
 use Rattle.std.proofs.lemmas.Str.Parse.{digit_at}
-use Rattle.std.proofs.lemmas.Bool.{ltb-true, and_parts}
+use Rattle.std.proofs.lemmas.Bool.{ltb-true, lt-ltb, and_parts}
 use Rattle.std.proofs.lemmas.Bool.Decides.{nat_tests}
+use Rattle.cs_base.specs.Limits.{most_bytes}
 use Rattle.cs_base.specs.Token.{Token}
 use Rattle.lexer.specs.Characters.{is_digit}
 use Rattle.lexer.specs.Spelling.{may_follow, all_follow, is_number_text}
@@ -13,7 +14,7 @@ use Rattle.macro_body.specs.Below.paste_origin.Pasting.{glue_of}
 use Rattle.macro_body.specs.Below.paste_origin.Strings.{stringize_of}
 use Rattle.macro_body.specs.Macro.{Table}
 use Rattle.macro_body.specs.Notes.{Note}
-use Rattle.macro_body.specs.Substitution.{line_number, path_string}
+use Rattle.macro_body.specs.Substitution.{number_token, line_number, path_string}
 use Rattle.expansion_laws.specs.Passing.{IsBlind, MacrosPass, MadePass, standing_at}
 use Rattle.expansion_laws.specs.Spelled.{fits, is_spelled, MacrosAreSpelled, TokensAreSpelled}
 use Rattle.expansion_laws.proofs.ListLemmas.{toks_more, toks_pass, pass_toks}
@@ -78,6 +79,13 @@ number_spelled name here =
     let line = (and_parts (fits name.kind name.text) (nat_lt name.line (2 ^ 64)) here).1 in
     rw (line_spelled name.line line, line) refl
 
+pub counted_spelled : (name : Token) (n : ℕ) → is_spelled name ≡ true → nat_lt n most_bytes ≡ true → is_spelled (number_token name n) ≡ true
+counted_spelled name n here low =
+    let line = (and_parts (fits name.kind name.text) (nat_lt name.line (2 ^ 64)) here).1 in
+    let few = ltb-true n most_bytes low in
+    let small : nat_lt n (2 ^ 64) ≡ true = lt-ltb n (2 ^ 64) (omega (arith, few)) in
+    rw (line_spelled n small, line) refl
+
 pub path_spelled : (path : List ℕ) (name : Token) → is_spelled name ≡ true → is_spelled (path_string path name) ≡ true
 path_spelled path name here = (and_parts (fits name.kind name.text) (nat_lt name.line (2 ^ 64)) here).1
 
@@ -88,6 +96,7 @@ macros_spelled table path notes macros = record {
       (toks_more (λ t. is_spelled t ≡ true) (λ t. is_spelled (standing_at name t) ≡ true) m.body (toks_pass is_spelled m.body (macros.bodies name.text m found))
       (λ t h. standing_spelled name t here h));
   lines = λ name m before here found is brought. number_spelled name here;
+  numbers = λ name n here low brought. counted_spelled name n here low;
   paths = λ name m here found is. path_spelled path name here;
   names = λ name m found links. macros.names name m found links;
 }

@@ -5,6 +5,7 @@ use Rattle.std.proofs.lemmas.List.{length-map}
 use Rattle.std.proofs.lemmas.Option.{none-some, same_Some}
 use Rattle.cs_base.specs.Token.{Token}
 use Rattle.line_shape.specs.Signs.{is_open}
+use Rattle.macro_body.specs.declared.notes.Work.{Work}
 use Rattle.macro_body.specs.declared.definitions.Definition.{Definition}
 use Rattle.macro_body.specs.Hides.{Hidden, hide_more}
 use Rattle.macro_body.specs.Macro.{is_function}
@@ -92,7 +93,7 @@ SplitsAll set depth before expand ts e = (ex : List Hidden) (t : Hidden) (ey : L
 
 -- so it is with fewer than b tokens and steps of work together
 unfoldable SplitsBelow : Setting → ℕ → Type 0
-SplitsBelow set b = (depth before : ℕ) (ts : List Hidden) (work : ℕ) (e : Expanded) → work + length ts < b
+SplitsBelow set b = (depth before : ℕ) (ts : List Hidden) (work : Work) (e : Expanded) → work.left + length ts < b
     → whole set depth before ts work ≡ Ok e → SplitsAll set depth before (λ xs. whole set depth before xs work) ts e
 
 -- behind tokens that are read first
@@ -126,14 +127,14 @@ open_same [] ys vs t h = h
 open_same (x ∷ xs) ys vs t h = h
 
 -- it stays before whatever begins with no `(` where what follows it does not
-abbrev Stays : Setting → ℕ → ℕ → Hidden → List Hidden → ℕ → Type 0
+abbrev Stays : Setting → ℕ → ℕ → Hidden → List Hidden → Work → Type 0
 Stays set depth before t ts work = (vs : List Hidden) → (begins_open ts ≡ false → begins_open vs ≡ false)
     → whole set depth before (t ∷ vs) work ≡ stays (whole set) depth before t vs work
 
 put_more : (t : Hidden) (r : Result Expanded Fault) (x : Expanded) → r ≡ Ok x → onward r (λ o. Ok (put_out t o)) ≡ Ok (put_out t x)
 put_more t r x is = ap (λ (v : Result Expanded Fault). onward v (λ o. Ok (put_out t o))) is
 
-stays_splits : (set : Setting) (b : ℕ) → SplitsBelow set b → (depth before : ℕ) (t : Hidden) (ts : List Hidden) (work : ℕ) (e : Expanded) → work + length ts < b
+stays_splits : (set : Setting) (b : ℕ) → SplitsBelow set b → (depth before : ℕ) (t : Hidden) (ts : List Hidden) (work : Work) (e : Expanded) → work.left + length ts < b
     → Stays set depth before t ts work → whole set depth before (t ∷ ts) work ≡ Ok e → SplitsAll set depth before (λ xs. whole set depth before xs work) (t ∷ ts) e
 unfolding SplitsBelow
 stays_splits set b below depth before t ts work e h stay is [] t0 ey toks_are d =
@@ -195,7 +196,7 @@ note_more : (notes : List Note) (r : Result Expanded Fault) (x : Expanded) → r
 note_more notes r x is = ap (λ (v : Result Expanded Fault). onward v (λ rest. Ok (noted notes rest))) is
 
 replaced_splits : (set : Setting) (b : ℕ) → SplitsBelow set b → (depth before : ℕ) (name : Token) (m : Definition) (added : List (List ℕ)) (n : ℕ)
-    → (raw : List (List Hidden)) → AllWithin n raw → (ts : List Hidden) (work : ℕ) (e : Expanded) → work + n < b → work + length ts < b
+    → (raw : List (List Hidden)) → AllWithin n raw → (ts : List Hidden) (work : Work) (e : Expanded) → work.left + n < b → work.left + length ts < b
     → replaced set (whole set) depth before name m added raw ts work ≡ Ok e
     → SplitsAll set depth before (λ vs. replaced set (whole set) depth before name m added raw vs work) ts e
 unfolding SplitsBelow
@@ -206,7 +207,7 @@ replaced_splits set b below depth before name m added n raw within ts work e h h
     let j = onward_ok {A = Expanded} (whole set depth before (put ++ ts) i.0.left) (λ rest. Ok (noted notes rest)) e i.2 in
     let e_is : noted notes j.0 ≡ e = ok_same (noted notes j.0) e j.2 in
     let puts = (put_for_puts b (whole set) (whole set) (whole_below_itself set b) m.form set.path depth before name m n raw within work h).falls i.0 i.1 in
-    let room : i.0.left + length (put ++ ts) < b = omega (arith, length-append put ts, length-map i.0.toks (hide_more added)) in
+    let room : i.0.left.left + length (put ++ ts) < b = omega (arith, length-append put ts, length-map i.0.toks (hide_more added)) in
     let s = below depth before (put ++ ts) i.0.left j.0 room j.1 ex t ey (ap (λ (v : Expanded). v.toks) e_is ∙ toks_are) d in
     let all_put : AllHidden IsPut put = hidden_more IsPut added i.0.toks (put_for_put m.form set.path (whole set) depth before name m raw work i.0 i.1) in
     let p = put_apart put ts s.xs s.ys t all_put d s.run in
@@ -236,7 +237,7 @@ replaced_splits set b below depth before name m added n raw within ts work e h h
 
 -- a call
 
-called_with_splits : (set : Setting) (b : ℕ) → SplitsBelow set b → (depth before : ℕ) (t : Hidden) (m : Definition) (call : Call) (n work : ℕ) → Shorter n call → work + n < b
+called_with_splits : (set : Setting) (b : ℕ) → SplitsBelow set b → (depth before : ℕ) (t : Hidden) (m : Definition) (call : Call) (n : ℕ) (work : Work) → Shorter n call → work.left + n < b
     → (raw : Option (List (List Hidden))) → arguments_of m call.arguments ≡ raw → (e : Expanded) → called_with set (whole set) depth before t m call work raw ≡ Ok e
     → SplitsAll set depth before (λ vs. called_with set (whole set) depth before t m (record call { rest = vs }) work raw) call.rest e
 called_with_splits set b below depth before t m call n work short h None args_are e is = err_ok (WrongArguments t.tok.at) e is
@@ -244,7 +245,7 @@ called_with_splits set b below depth before t m call n work short h (Some raw) a
     let behind = short.behind in
     replaced_splits set b below depth before t.tok m (added_by t call.close) n raw (arguments_within m n call.arguments raw short.each args_are) call.rest work e h (omega arith) is
 
-called_splits : (set : Setting) (b : ℕ) → SplitsBelow set b → (depth before : ℕ) (t p : Hidden) (m : Definition) (ts : List Hidden) (work : ℕ) → work + length ts < b
+called_splits : (set : Setting) (b : ℕ) → SplitsBelow set b → (depth before : ℕ) (t p : Hidden) (m : Definition) (ts : List Hidden) (work : Work) → work.left + length ts < b
     → ((vs : List Hidden) → whole set depth before (t ∷ p ∷ vs) work ≡ called set (whole set) depth before t m work (call_from vs (commas_of m) 0))
     → (call : Option Call) → call_from ts (commas_of m) 0 ≡ call → (e : Expanded) → called set (whole set) depth before t m work call ≡ Ok e
     → SplitsAll set depth before (λ xs. whole set depth before xs work) (t ∷ p ∷ ts) e
@@ -259,28 +260,28 @@ called_splits set b below depth before t p m ts work h goes (Some call) call_is 
 
 -- a function-like macro's name
 
-behind_goes : (set : Setting) (depth before : ℕ) (t : Hidden) (m : Definition) (work : ℕ) → macro_of set.table t ≡ Some m → is_function m.form ≡ true
+behind_goes : (set : Setting) (depth before : ℕ) (t : Hidden) (m : Definition) (work : Work) → macro_of set.table t ≡ Some m → is_function m.form ≡ true
     → (vs : List Hidden) → whole set depth before (t ∷ vs) work ≡ behind_name set (whole set) depth before t m vs work
 behind_goes set depth before t m work is_m fn vs =
     whole_is_step set depth before (t ∷ vs) work
     ∙ ap (act set (whole set) depth before t vs work) is_m
     ∙ ap (λ (v : Bool). cond v (behind_name set (whole set) depth before t m vs work) (replaced set (whole set) depth before t.tok m (t.hides ++ t.tok.text ∷ []) [] vs work)) fn
 
-closed_goes : (set : Setting) (depth before : ℕ) (t : Hidden) (m : Definition) (work : ℕ) → macro_of set.table t ≡ Some m → is_function m.form ≡ true
+closed_goes : (set : Setting) (depth before : ℕ) (t : Hidden) (m : Definition) (work : Work) → macro_of set.table t ≡ Some m → is_function m.form ≡ true
     → (vs : List Hidden) → begins_open vs ≡ false → whole set depth before (t ∷ vs) work ≡ stays (whole set) depth before t vs work
 closed_goes set depth before t m work is_m fn [] shut = behind_goes set depth before t m work is_m fn []
 closed_goes set depth before t m work is_m fn (p ∷ vs) shut =
     behind_goes set depth before t m work is_m fn (p ∷ vs)
     ∙ ap (λ (v : Bool). cond v (called set (whole set) depth before t m work (call_from vs (commas_of m) 0)) (stays (whole set) depth before t (p ∷ vs) work)) shut
 
-open_goes : (set : Setting) (depth before : ℕ) (t p : Hidden) (m : Definition) (work : ℕ) → macro_of set.table t ≡ Some m → is_function m.form ≡ true → is_open p.tok ≡ true
+open_goes : (set : Setting) (depth before : ℕ) (t p : Hidden) (m : Definition) (work : Work) → macro_of set.table t ≡ Some m → is_function m.form ≡ true → is_open p.tok ≡ true
     → (vs : List Hidden) → whole set depth before (t ∷ p ∷ vs) work ≡ called set (whole set) depth before t m work (call_from vs (commas_of m) 0)
 open_goes set depth before t p m work is_m fn opens vs =
     behind_goes set depth before t m work is_m fn (p ∷ vs)
     ∙ ap (λ (v : Bool). cond v (called set (whole set) depth before t m work (call_from vs (commas_of m) 0)) (stays (whole set) depth before t (p ∷ vs) work)) opens
 
-function_splits : (set : Setting) (b : ℕ) → SplitsBelow set b → (depth before : ℕ) (t : Hidden) (m : Definition) (ts : List Hidden) (work : ℕ) (e : Expanded)
-    → macro_of set.table t ≡ Some m → is_function m.form ≡ true → work + length ts < b
+function_splits : (set : Setting) (b : ℕ) → SplitsBelow set b → (depth before : ℕ) (t : Hidden) (m : Definition) (ts : List Hidden) (work : Work) (e : Expanded)
+    → macro_of set.table t ≡ Some m → is_function m.form ≡ true → work.left + length ts < b
     → whole set depth before (t ∷ ts) work ≡ Ok e → SplitsAll set depth before (λ xs. whole set depth before xs work) (t ∷ ts) e
 function_splits set b below depth before t m [] work e is_m fn h is =
     stays_splits set b below depth before t [] work e h (λ vs k. closed_goes set depth before t m work is_m fn vs (k refl)) is
@@ -293,7 +294,7 @@ function_splits set b below depth before t m (p ∷ ts) work e is_m fn h is = by
     by false shut =
         stays_splits set b below depth before t (p ∷ ts) work e h (λ vs k. closed_goes set depth before t m work is_m fn vs (k shut)) is
 
-act_splits : (set : Setting) (b : ℕ) → SplitsBelow set b → (depth before : ℕ) (t : Hidden) (ts : List Hidden) (work : ℕ) (e : Expanded) → work + length ts < b
+act_splits : (set : Setting) (b : ℕ) → SplitsBelow set b → (depth before : ℕ) (t : Hidden) (ts : List Hidden) (work : Work) (e : Expanded) → work.left + length ts < b
     → (m : Option Definition) → macro_of set.table t ≡ m → whole set depth before (t ∷ ts) work ≡ Ok e
     → SplitsAll set depth before (λ xs. whole set depth before xs work) (t ∷ ts) e
 act_splits set b below depth before t ts work e h None is_m is =
@@ -315,14 +316,14 @@ act_splits set b below depth before t ts work e h (Some m) is_m is = by (is_func
         behind_splits set depth before (t ∷ []) f (λ xs. whole set depth before xs work) (goes fn) ts e
         (replaced_splits set b below depth before t.tok m (t.hides ++ t.tok.text ∷ []) 0 [] none ts work e (omega arith) h (sym (goes fn ts) ∙ is))
 
-nothing_splits : (set : Setting) (depth before work : ℕ) (e : Expanded) → whole set depth before [] work ≡ Ok e → SplitsAll set depth before (λ xs. whole set depth before xs work) [] e
+nothing_splits : (set : Setting) (depth before : ℕ) (work : Work) (e : Expanded) → whole set depth before [] work ≡ Ok e → SplitsAll set depth before (λ xs. whole set depth before xs work) [] e
 nothing_splits set depth before work e is ex t ey toks_are d =
     let e_is : expanded [] [] work ≡ e = ok_same (expanded [] [] work) e (sym (whole_is_step set depth before [] work) ∙ is) in
     let list : [] ≡ ex ++ t ∷ ey = ap (λ (v : Expanded). v.toks) e_is ∙ toks_are in
     let n : 0 ≡ length ex + suc (length ey) = ap length list ∙ length-append ex (t ∷ ey) in
     absurd (omega arith)
 
-step_splits : (set : Setting) (b : ℕ) → SplitsBelow set b → (depth before : ℕ) (ts : List Hidden) (work : ℕ) (e : Expanded) → work + length ts < suc b
+step_splits : (set : Setting) (b : ℕ) → SplitsBelow set b → (depth before : ℕ) (ts : List Hidden) (work : Work) (e : Expanded) → work.left + length ts < suc b
     → whole set depth before ts work ≡ Ok e → SplitsAll set depth before (λ xs. whole set depth before xs work) ts e
 step_splits set b below depth before [] work e h is = nothing_splits set depth before work e is
 step_splits set b below depth before (t ∷ ts) work e h is = act_splits set b below depth before t ts work e (omega arith) (macro_of set.table t) refl is
@@ -335,6 +336,6 @@ splits_below set (suc b) = λ depth before ts work e h is. step_splits set b (sp
 pub expansion_splits : ExpansionSplits
 unfolding SplitsBelow
 expansion_splits = λ set depth before ts work e ex t ey is toks_are d.
-    let below : (depth before : ℕ) (zs : List Hidden) (work2 : ℕ) (e : Expanded) → work2 + length zs < suc (work + length ts)
-    → whole set depth before zs work2 ≡ Ok e → SplitsAll set depth before (λ xs. whole set depth before xs work2) zs e = splits_below set (suc (work + length ts)) in
+    let below : (depth before : ℕ) (zs : List Hidden) (work2 : Work) (e : Expanded) → work2.left + length zs < suc (work.left + length ts)
+    → whole set depth before zs work2 ≡ Ok e → SplitsAll set depth before (λ xs. whole set depth before xs work2) zs e = splits_below set (suc (work.left + length ts)) in
     below depth before ts work e (omega arith) is ex t ey toks_are d

@@ -32,6 +32,7 @@ rules_true set = record {
   moved = λ t h. tt;
   bodies = λ name m here found. any_toks m.body;
   lines = λ name m before here found is brought. tt;
+  numbers = λ name n here low brought. tt;
   paths = λ name m here found is. tt;
   strings = λ name gap toks s here all made. tt;
   pastes = λ name x y z here px py made told. tt;
@@ -39,6 +40,7 @@ rules_true set = record {
   linked = λ name m here is found links. record { identifier = is; definition = m; defined = found; same = refl };
   stringized = λ toks s all made. record { made = made; origins = string_keeps toks s made };
   pasted = λ name x y z px py pz made. record { token = z; made = made; same = record { kind = refl; text = refl; origins = refl } };
+  counted = λ name n here z. record { name = name; number = n; same = refl };
 }
 
 pub notes_are_true : NotesAreTrue
@@ -58,6 +60,7 @@ rules_alike set names = record {
   moved = λ t h. tt;
   bodies = λ name m here found. any_toks m.body;
   lines = λ name m before here found is brought. tt;
+  numbers = λ name n here low brought. tt;
   paths = λ name m here found is. tt;
   strings = λ name gap toks s here all made. tt;
   pastes = λ name x y z here px py made told. tt;
@@ -65,6 +68,7 @@ rules_alike set names = record {
   linked = λ name m here is found links. record { first = is; second = names.identifier name.text m found links; text = sym (names.text name.text m found links) };
   stringized = λ toks s all made. tt;
   pasted = λ name x y z px py pz made. tt;
+  counted = λ name n here z. tt;
 }
 
 pub links_are_alike : LinksAreAlike

@@ -4,12 +4,13 @@ use Rattle.std.specs.Prelude.{◌≡◌, ◌≤◌, ℕ, ◌+◌, Bool, true, fa
 use Rattle.std.specs.List.{list_all}
 use Rattle.cs_base.specs.declared.positions.Pos.{Pos}
 use Rattle.cs_base.specs.Token.{Token}
+use Rattle.macro_body.specs.declared.notes.Work.{Work}
 use Rattle.macro_body.specs.declared.definitions.Form.{Form}
 use Rattle.macro_body.specs.declared.definitions.Form.TheVariants as form
 use Rattle.macro_body.specs.declared.definitions.Definition.{Definition}
 use Rattle.macro_body.specs.Hides.{Hidden, hidden}
 use Rattle.macro_body.specs.Macro.{Table}
-use Rattle.macro_body.specs.Notes.{Note, Replaced, Linked, Stringized, Pasted, Expanded}
+use Rattle.macro_body.specs.Notes.{Note, Replaced, Linked, Stringized, Pasted, Counted, Expanded}
 use Rattle.lexer.specs.Places.{pos}
 use Rattle.macro_expand.specs.Expansion.{Setting, whole}
 
@@ -54,33 +55,37 @@ plain_note far (Replaced name m before) = Replaced (label far true name) m 0
 plain_note far (Linked x y) = Linked (label far true x) y
 plain_note far (Stringized toks s) = Stringized (map (unlined far) toks) (record s { origins = kept_origins far s.origins })
 plain_note far (Pasted x y z) = Pasted (unlined far x) (unlined far y) (unlined far z)
+plain_note far (Counted z) = Counted (unlined far z)
 
--- ---- numbers of lines
+-- ---- numbers of lines, and of the unit
 
+-- for such a form there stands the number of a line (6.10.8), or the next number of the unit, which GNU C has
 abbrev pub stands_for_line : Form → Bool
 stands_for_line form.Line = true
+stands_for_line form.Counter = true
 stands_for_line _ = false
 
 abbrev pub names_line : Option Definition → Bool
 names_line None = false
 names_line (Some m) = stands_for_line m.form
 
--- the note tells of no name that the number of its line replaces (6.10.8)
+-- the note tells of no name that such a number replaces
 abbrev pub brings_no_line : Table → Note → Bool
 brings_no_line table (Replaced name m before) = not (names_line (table name.text))
 brings_no_line table _ = true
 
 -- ---- the law
 
--- Two expansions are alike, and ask for the same work.
-pub record AreAlike (far loose : Bool) (work work2 : ℕ) (e e2 : Expanded) : Type 0 where
+-- Two expansions are alike, and ask for the same work; neither brings a number of the unit.
+pub record AreAlike (far loose : Bool) (work work2 : Work) (e e2 : Expanded) : Type 0 where
   pub toks : canon far loose e2.toks ≡ canon far loose e.toks
   pub notes : map (plain_note far) e2.notes ≡ map (plain_note far) e.notes
-  pub cost : e2.left + work ≡ e.left + work2
+  pub cost : e2.left.left + work.left ≡ e.left.left + work2.left
+  pub counters : (e.left.counter ≡ work.counter) × (e2.left.counter ≡ work2.counter)
 
 -- The law: tokens that are alike, wherever they stand, and with enough work left, are expanded alike.
 abbrev pub ExpandsAlike : Type 0
-ExpandsAlike = (far loose : Bool) (set : Setting) (depth before before2 : ℕ) (ts ts2 : List Hidden) (work work2 : ℕ) (e : Expanded)
-    → whole set depth before ts work ≡ Ok e → canon far loose ts2 ≡ canon far loose ts → work ≤ e.left + work2
+ExpandsAlike = (far loose : Bool) (set : Setting) (depth before before2 : ℕ) (ts ts2 : List Hidden) (work work2 : Work) (e : Expanded)
+    → whole set depth before ts work ≡ Ok e → canon far loose ts2 ≡ canon far loose ts → work.left ≤ e.left.left + work2.left
     → list_all (brings_no_line set.table) e.notes ≡ true
     → (e2 : Expanded) × (whole set depth before2 ts2 work2 ≡ Ok e2) × AreAlike far loose work work2 e e2

@@ -4,6 +4,7 @@
 use Rattle.std.specs.Prelude.{◌≡◌, ◌<◌, ℕ, suc, ◌+◌, nat_le, ◌&&◌, ◌||◌, Bool, true, false, List, [], ◌∷◌, map, take, drop, Some, Ok, slice_get}
 use Rattle.cs_base.specs.Token.{Token}
 use Rattle.line_shape.specs.Signs.{is_open, is_close, is_comma}
+use Rattle.macro_body.specs.declared.notes.Work.{Work}
 use Rattle.macro_body.specs.Hides.{toks_of}
 use Rattle.macro_body.specs.Macro.{Table}
 use Rattle.macro_body.specs.Notes.{Note, Replaced, Expanded}
@@ -104,7 +105,7 @@ pub record IsArranged (order : List ℕ) (c : Cut) (e e2 : Expanded) : Type 0 wh
 
 -- The law: a run in the new order is expanded to the tokens in the new order.
 abbrev pub RunsAreArranged : Type 0
-RunsAreArranged = (table : Table) (path : List ℕ) (n : ℕ) (order : List ℕ) (c d : Cut) (run new : List Token) (work : ℕ) (e : Expanded)
+RunsAreArranged = (table : Table) (path : List ℕ) (n : ℕ) (order : List ℕ) (c d : Cut) (run new : List Token) (work : Work) (e : Expanded)
     → IsOrder n order → AreOf n d → expansion table path run work ≡ Ok e → AreDistinct run → MarksStand c d run (toks_of e.toks)
     → LinesStay table 0 d e.notes → StandFor c new run
     → (e2 : Expanded) × (expansion table path (arranged order c new) work ≡ Ok e2) × IsArranged order d e e2
@@ -137,7 +138,7 @@ abbrev mutual
 
 -- The law: then the run has the same lists.
 abbrev pub RunsHaveCuts : Type 0
-RunsHaveCuts = (table : Table) (path : List ℕ) (d : Cut) (run : List Token) (work : ℕ) (e : Expanded) → expansion table path run work ≡ Ok e → SignsStand d (toks_of e.toks)
+RunsHaveCuts = (table : Table) (path : List ℕ) (d : Cut) (run : List Token) (work : Work) (e : Expanded) → expansion table path run work ≡ Ok e → SignsStand d (toks_of e.toks)
     → (c : Cut) × MarksStand c d run (toks_of e.toks) × ((n : ℕ) → AreOf n d → AreOf n c)
 
 -- The law: they are in one cut alone, where no token stands in the run twice.

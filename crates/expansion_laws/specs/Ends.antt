@@ -3,18 +3,19 @@
 use Rattle.std.specs.Prelude.{◌≡◌, ◌<◌, ℕ, ◌-◌, Bool, true, false, List, [], ◌∷◌, ◌++◌, length, Ok, Some, slice_get}
 use Rattle.cs_base.specs.Token.{Token}
 use Rattle.line_shape.specs.Signs.{is_name, is_close}
+use Rattle.macro_body.specs.declared.notes.Work.{Work}
 use Rattle.macro_body.specs.Hides.{Hidden, unhidden, toks_of}
 use Rattle.macro_body.specs.Notes.{Expanded}
 use Rattle.macro_expand.specs.Expansion.{Setting, whole}
 
 -- The law: the first token stays first where it is no name.
 abbrev pub FirstStays : Type 0
-FirstStays = (set : Setting) (depth before : ℕ) (t : Hidden) (ts : List Hidden) (work : ℕ) (e : Expanded) → is_name t.tok ≡ false
+FirstStays = (set : Setting) (depth before : ℕ) (t : Hidden) (ts : List Hidden) (work : Work) (e : Expanded) → is_name t.tok ≡ false
     → whole set depth before (t ∷ ts) work ≡ Ok e → (ys : List Hidden) × (e.toks ≡ t ∷ ys)
 
 -- The law: the last token stays last where it is no name and no `)`, with which a call may end.
 abbrev pub LastStays : Type 0
-LastStays = (set : Setting) (depth before : ℕ) (xs : List Hidden) (t : Hidden) (work : ℕ) (e : Expanded) → is_name t.tok ≡ false → is_close t.tok ≡ false
+LastStays = (set : Setting) (depth before : ℕ) (xs : List Hidden) (t : Hidden) (work : Work) (e : Expanded) → is_name t.tok ≡ false → is_close t.tok ≡ false
     → whole set depth before (xs ++ t ∷ []) work ≡ Ok e → (ys : List Hidden) × (e.toks ≡ ys ++ t ∷ [])
 
 -- ---- by tests of tokens
@@ -41,4 +42,4 @@ pub record EndsPass (ts out : List Token) : Type 0 where
   pub last : (q : Token → Bool) → NamesPass q → ClosesPass q → LastPasses q out → LastPasses q ts
 
 abbrev pub ExpansionsEndAlike : Type 0
-ExpansionsEndAlike = (set : Setting) (depth before : ℕ) (ts : List Token) (work : ℕ) (x : Expanded) → whole set depth before (unhidden ts) work ≡ Ok x → EndsPass ts (toks_of x.toks)
+ExpansionsEndAlike = (set : Setting) (depth before : ℕ) (ts : List Token) (work : Work) (x : Expanded) → whole set depth before (unhidden ts) work ≡ Ok x → EndsPass ts (toks_of x.toks)

@@ -4,12 +4,13 @@ use Rattle.std.specs.Prelude.{◌≡◌, ℕ, Bool, true, false, List, Ok, Some,
 use Rattle.std.specs.List.{list_all, flat_map}
 use Rattle.cs_base.specs.Token.{Token}
 use Rattle.lexer.specs.Characters.{double_quote}
+use Rattle.macro_body.specs.declared.notes.Work.{Work}
 use Rattle.macro_body.specs.declared.definitions.Form.TheVariants as form
 use Rattle.macro_body.specs.declared.definitions.Definition.{Definition}
 use Rattle.macro_body.specs.Hides.{toks_of}
 use Rattle.macro_body.specs.Macro.{Table}
-use Rattle.macro_body.specs.Notes.{Note, Replaced, Linked, Stringized, Pasted, Expanded}
-use Rattle.macro_body.specs.Substitution.{line_number}
+use Rattle.macro_body.specs.Notes.{Note, Replaced, Linked, Stringized, Pasted, Counted, Expanded}
+use Rattle.macro_body.specs.Substitution.{number_token, line_number}
 use Rattle.macro_expand.specs.Expansion.{links_name, expansion}
 use Rattle.expansion_laws.specs.Telling.{IsAmong}
 
@@ -38,12 +39,13 @@ abbrev pub AreWhole : Characters → List Token → List Token → Type 0
 AreWhole among files toks = (t : Token) → IsOneOf toks t → IsWhole among files t
 
 -- so it is with the tokens of macros: those of replacement lists, names that are linked, and the numbers
--- of lines that a note tells of
+-- of lines and of the unit that a note tells of
 pub record MacrosAreWhole (among : Characters) (files : List Token) (table : Table) (notes : List Note) : Type 0 where
   pub bodies : (name : List ℕ) (m : Definition) → table name ≡ Some m → AreWhole among files m.body
   pub names : (name : List ℕ) (m : Definition) → table name ≡ Some m → links_name m.form ≡ true → IsWhole among files m.name
   pub lines : (name : Token) (m : Definition) (before : ℕ) → table name.text ≡ Some m → m.form ≡ form.Line
       → IsAmong notes (Replaced name m.name before) → IsWhole among files (line_number name)
+  pub numbers : (name : Token) (n : ℕ) → IsAmong notes (Counted (number_token name n)) → IsWhole among files (number_token name n)
 
 -- and with those of which a note tells
 abbrev pub NoteIsWhole : Characters → List Token → Note → Type 0
@@ -51,6 +53,7 @@ NoteIsWhole among files (Replaced name m before) = IsWhole among files name
 NoteIsWhole among files (Linked x y) = IsWhole among files x × IsWhole among files y
 NoteIsWhole among files (Stringized toks s) = AreWhole among files toks
 NoteIsWhole among files (Pasted x y z) = IsWhole among files x × IsWhole among files y × IsWhole among files z
+NoteIsWhole among files (Counted z) = IsWhole among files z
 
 -- and with those of an expansion
 pub record AllWhole (among : Characters) (files : List Token) (e : Expanded) : Type 0 where
@@ -60,7 +63,7 @@ pub record AllWhole (among : Characters) (files : List Token) (e : Expanded) : T
 -- The law: where the tokens of the run and of macros that are spelled with some characters, of which `"` is
 -- none, are made of whole tokens of files, so are those of the expansion. A string has a `"`.
 abbrev pub TokensAreWhole : Type 0
-TokensAreWhole = (among : Characters) (files : List Token) (table : Table) (path : List ℕ) (run : List Token) (work : ℕ) (e : Expanded)
+TokensAreWhole = (among : Characters) (files : List Token) (table : Table) (path : List ℕ) (run : List Token) (work : Work) (e : Expanded)
     → among double_quote ≡ false → expansion table path run work ≡ Ok e
     → AreWhole among files run → MacrosAreWhole among files table e.notes → AllWhole among files e
 
@@ -79,5 +82,5 @@ pub record StandInRun (run : List Token) (e : Expanded) : Type 0 where
   pub names : (name m : Token) (before : ℕ) → IsAmong e.notes (Replaced name m before) → StandsWith run name
 
 abbrev pub PlacesAreOfTheRun : Type 0
-PlacesAreOfTheRun = (table : Table) (path : List ℕ) (run : List Token) (work : ℕ) (e : Expanded)
+PlacesAreOfTheRun = (table : Table) (path : List ℕ) (run : List Token) (work : Work) (e : Expanded)
     → expansion table path run work ≡ Ok e → StandInRun run e

@@ -2,6 +2,7 @@
 -- portions stand in another order is expanded to theirs in that order.
 use Rattle.std.specs.Prelude.{◌≡◌, ◌≤◌, ℕ, ◌+◌, ◌-◌, ◌&&◌, Bool, true, false, List, [], ◌∷◌, map, Ok}
 use Rattle.std.specs.List.{list_all, flat_map}
+use Rattle.macro_body.specs.declared.notes.Work.{Work}
 use Rattle.macro_body.specs.Hides.{Hidden}
 use Rattle.macro_body.specs.Notes.{Expanded}
 use Rattle.macro_expand.specs.Expansion.{Setting, whole}
@@ -14,14 +15,14 @@ use Rattle.expansion_laws.specs.Alike.{canon, plain_note, brings_no_line}
 pub record Portion : Type 0 where
   pub toks : List Hidden
   pub before : ℕ
-  pub work : ℕ
+  pub work : Work
   pub out : Expanded
   pub loose : Bool
   pub again : List Hidden
 
 -- what it asked for
 abbrev pub cost_of : Portion → ℕ
-cost_of p = p.work - p.out.left
+cost_of p = p.work.left - p.out.left.left
 
 unfoldable pub costs_of : List Portion → ℕ
 costs_of [] = 0
@@ -47,22 +48,24 @@ AreTheirs [] [] = Unit {0}
 AreTheirs (p ∷ ps) (e ∷ es) = (canon false p.loose e.toks ≡ canon false p.loose p.out.toks) × AreTheirs ps es
 AreTheirs _ _ = ⊥
 
--- The run that the other tokens make is expanded to theirs, with the same notes, and asks for as much work.
-pub record Composes (set : Setting) (depth before work : ℕ) (ps : List Portion) : Type 0 where
+-- The run that the other tokens make is expanded to theirs, with the same notes, and asks for as much work; no number of
+-- the unit is brought.
+pub record Composes (set : Setting) (depth before : ℕ) (work : Work) (ps : List Portion) : Type 0 where
   pub parts : List Expanded
   pub out : Expanded
   pub expands : whole set depth before (flat_map (λ (p : Portion). p.again) ps) work ≡ Ok out
   pub theirs : AreTheirs ps parts
   pub toks : out.toks ≡ flat_map (λ (e : Expanded). e.toks) parts
   pub notes : map (plain_note false) out.notes ≡ flat_map (λ (p : Portion). map (plain_note false) p.out.notes) ps
-  pub cost : out.left + costs_of ps ≡ work
+  pub cost : out.left.left + costs_of ps ≡ work.left
+  pub counter : out.left.counter ≡ work.counter
 
 -- The law.
 abbrev pub PortionsCompose : Type 0
-PortionsCompose = (set : Setting) (depth before work : ℕ) (ps : List Portion) → ArePortions set depth ps → costs_of ps ≤ work → Composes set depth before work ps
+PortionsCompose = (set : Setting) (depth before : ℕ) (work : Work) (ps : List Portion) → ArePortions set depth ps → costs_of ps ≤ work.left → Composes set depth before work ps
 
 -- The law: so it is where lists of portions are in a new order, and they ask for as much as before.
 abbrev pub PortionsMove : Type 0
-PortionsMove = (set : Setting) (depth before work n : ℕ) (order : List ℕ) (c : Cut) (ps : List Portion) → IsOrder n order → AreOf n c
-    → ArePortions set depth (arranged order c ps) → costs_of ps ≤ work
+PortionsMove = (set : Setting) (depth before : ℕ) (work : Work) (n : ℕ) (order : List ℕ) (c : Cut) (ps : List Portion) → IsOrder n order → AreOf n c
+    → ArePortions set depth (arranged order c ps) → costs_of ps ≤ work.left
     → Composes set depth before work (arranged order c ps) × (costs_of (arranged order c ps) ≡ costs_of ps)

@@ -1,6 +1,7 @@
 -- A run that falls into sections, each of which ends in a sign that no macro put in (ISO/IEC 9899:1999, 6.10.3), as the
 -- parentheses and the commas of a list are.
 use Rattle.std.specs.Prelude.{◌≡◌, ℕ, true, List, [], ◌∷◌, ◌++◌, None, Ok}
+use Rattle.macro_body.specs.declared.notes.Work.{Work}
 use Rattle.macro_body.specs.Hides.{Hidden}
 use Rattle.macro_body.specs.Macro.{Table}
 use Rattle.macro_body.specs.Notes.{Expanded, expanded}
@@ -26,7 +27,7 @@ AreSigns table (s ∷ ss) = (s.sign.tok.direct ≡ true) × (macro_of table s.si
 pub record Fallen : Type 0 where
   pub toks : List Hidden
   pub before : ℕ
-  pub work : ℕ
+  pub work : Work
   pub out : Expanded
 
 -- They are expanded so by themselves, and with the sign behind them to the same and the sign.
@@ -36,7 +37,7 @@ pub record IsFallen (set : Setting) (depth : ℕ) (sign : Hidden) (f : Fallen) :
 
 -- A run falls into these: each is expanded to the tokens of its section, with the work that the one before it left, and the
 -- last tokens, which end in no sign, too.
-abbrev pub FallsInto : Setting → ℕ → List Hidden → ℕ → Expanded → List Section → List Hidden → List Fallen → Fallen → Type 0
+abbrev pub FallsInto : Setting → ℕ → List Hidden → Work → Expanded → List Section → List Hidden → List Fallen → Fallen → Type 0
 FallsInto set depth ts work e [] last [] f =
     (f.toks ≡ ts) × (f.work ≡ work) × (f.out ≡ e) × (f.out.toks ≡ last) × (whole set depth f.before f.toks f.work ≡ Ok f.out)
 FallsInto set depth ts work e (s ∷ ss) last (f ∷ fs) end =
@@ -48,6 +49,6 @@ FallsInto _ _ _ _ _ _ _ _ _ = ⊥
 
 -- The law: an expansion whose tokens fall into such sections comes of a run that does.
 abbrev pub RunsFall : Type 0
-RunsFall = (set : Setting) (depth before : ℕ) (ts : List Hidden) (work : ℕ) (e : Expanded) (ss : List Section) (last : List Hidden)
+RunsFall = (set : Setting) (depth before : ℕ) (ts : List Hidden) (work : Work) (e : Expanded) (ss : List Section) (last : List Hidden)
     → whole set depth before ts work ≡ Ok e → e.toks ≡ laid_out ss last → AreSigns set.table ss
     → (fs : List Fallen) × (end : Fallen) × FallsInto set depth ts work e ss last fs end

@@ -8,6 +8,7 @@ use Rattle.cs_base.specs.declared.tokens.Kind.TheVariants.{Ident, Number, Char, 
 use Rattle.cs_base.specs.Token.{Token, has_origins}
 use Rattle.lexer.specs.Characters.{less_than, double_quote, capital_l, is_quote, is_white, is_word, begins}
 use Rattle.lexer.specs.Spelling.{is_identifier_text, is_number_text, is_punctuator_text, kind_of}
+use Rattle.macro_body.specs.declared.notes.Work.{Work}
 use Rattle.macro_body.specs.declared.definitions.Definition.{Definition}
 use Rattle.macro_body.specs.Macro.{Table}
 use Rattle.macro_body.specs.Notes.{Expanded}
@@ -58,5 +59,5 @@ pub record MacrosAreSpelled (table : Table) : Type 0 where
 -- The law: where the tokens of the run and of macros are spelled as their kinds say, so are those of the
 -- expansion: in particular, each identifier among them is spelled as an identifier.
 abbrev pub TokensAreSpelled : Type 0
-TokensAreSpelled = (table : Table) (path : List ℕ) (run : List Token) (work : ℕ) (e : Expanded)
+TokensAreSpelled = (table : Table) (path : List ℕ) (run : List Token) (work : Work) (e : Expanded)
     → expansion table path run work ≡ Ok e → MacrosAreSpelled table → list_all is_spelled run ≡ true → ExpansionPasses is_spelled e

@@ -1,5 +1,6 @@
 -- Expansions that split at a token (ISO/IEC 9899:1999, 6.10.3): the converse of expanding part by part.
 use Rattle.std.specs.Prelude.{◌≡◌, ℕ, suc, true, List, ◌∷◌, ◌++◌, length, Result, Ok}
+use Rattle.macro_body.specs.declared.notes.Work.{Work}
 use Rattle.macro_body.specs.Hides.{Hidden}
 use Rattle.macro_body.specs.Notes.{Fault, Expanded, expanded, put_out}
 use Rattle.macro_expand.specs.Expansion.{Setting, whole}
@@ -29,6 +30,6 @@ pub record Splits (set : Setting) (depth before : ℕ) (expand : List Hidden →
 
 -- The law: at each token of an expansion that no macro put in, it splits.
 abbrev pub ExpansionSplits : Type 0
-ExpansionSplits = (set : Setting) (depth before : ℕ) (ts : List Hidden) (work : ℕ) (e : Expanded) (ex : List Hidden) (t : Hidden) (ey : List Hidden)
+ExpansionSplits = (set : Setting) (depth before : ℕ) (ts : List Hidden) (work : Work) (e : Expanded) (ex : List Hidden) (t : Hidden) (ey : List Hidden)
     → whole set depth before ts work ≡ Ok e → e.toks ≡ ex ++ t ∷ ey → t.tok.direct ≡ true
     → Splits set depth before (λ xs. whole set depth before xs work) ts e ex t ey

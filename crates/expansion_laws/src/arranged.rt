@@ -17,7 +17,7 @@ pub fn expansion_splits()
 
 /// Tokens that are alike but for their lines, and for white space before the first of them, are expanded to tokens
 /// that are so too, with as much work, wherever they stand and whatever was put out before, where that much work is
-/// left and no `__LINE__` is replaced. So are tokens that are alike but for these, and for their places too.
+/// left and no `__LINE__` or `__COUNTER__` is replaced. So are tokens that are alike but for these, and for their places too.
 pub fn expansion_goes_alike()
     ensures alike { ExpandsAlike }
 {}
@@ -41,7 +41,7 @@ pub fn runs_fall()
 
 /// A run in which lists stand whose marks are in what it is expanded to, each put in by no macro, goes along with a new
 /// order of their items: the run in that order is expanded to the tokens in that order, but for lines, places and white
-/// space, and as much work is left. In a list no `__LINE__` is replaced; outside lists one may be.
+/// space, and as much work is left. In a list no `__LINE__` or `__COUNTER__` is replaced; outside lists one may be.
 pub fn runs_are_arranged()
     ensures arranged { RunsAreArranged }
 {

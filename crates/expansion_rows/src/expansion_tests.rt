@@ -2,7 +2,7 @@
 use crate::expansion_texts::expanded;
 use crate::fault_rows::{FAULTS, NOTES, PLENTY};
 use crate::operator_rows::OPERATORS;
-use crate::standard_rows::{EXAMPLES, REPLACED, Row};
+use crate::standard_rows::{COUNTED, EXAMPLES, REPLACED, Row};
 use cs_base::{Memory, Pos, Tok};
 use itoa::Buffer;
 use macro_expand::{ExpandFault, Notes, Work};
@@ -74,6 +74,11 @@ fn shown_notes(alloc: Global, notes: &Notes) -> Result<Vec<u8>, Memory> {
     Ok(shown)
 }
 
+// So much work, where no number of the unit was brought.
+fn working(left: u32) -> Work {
+    Work { left, counter: 0 }
+}
+
 // The name of a fault, and the character where it stands.
 fn told(fault: ExpandFault) -> (&'static [u8], u32) {
     match fault {
@@ -89,7 +94,7 @@ fn told(fault: ExpandFault) -> (&'static [u8], u32) {
 
 fn check_rows(rt: &impl Abort, alloc: Global, table: &str, rows: &[Row]) -> Result<(), Fail> {
     for (k, (text, expected)) in rows.iter().enumerate() {
-        let mut work = Work { left: PLENTY };
+        let mut work = working(PLENTY);
         let toks = expanded(alloc, PATH, text, &mut work, &mut Notes::new(alloc))?;
         assert!(rt;
             shown_toks(alloc, &toks)?.as_slice() == *expected,
@@ -107,9 +112,14 @@ fn texts_expand_as_the_standard_says(rt: HostRuntime) -> Result<(), Fail> {
 }
 
 #[test]
+fn numbers_of_the_unit_rise(rt: HostRuntime) -> Result<(), Fail> {
+    check_rows(&rt, rt.alloc(), "COUNTED", &COUNTED)
+}
+
+#[test]
 fn the_first_fault_stands_at_the_name(rt: HostRuntime) -> Result<(), Fail> {
     for (k, (text, left, name, at)) in FAULTS.iter().enumerate() {
-        let mut work = Work { left: *left };
+        let mut work = working(*left);
         match expanded(
             rt.alloc(),
             PATH,
@@ -127,7 +137,7 @@ fn the_first_fault_stands_at_the_name(rt: HostRuntime) -> Result<(), Fail> {
 #[test]
 fn what_happens_is_kept(rt: HostRuntime) -> Result<(), Fail> {
     for (k, (text, expected, left)) in NOTES.iter().enumerate() {
-        let mut work = Work { left: PLENTY };
+        let mut work = working(PLENTY);
         let mut notes = Notes::new(rt.alloc());
         let _toks = expanded(rt.alloc(), PATH, text, &mut work, &mut notes)?;
         assert!(rt;
@@ -155,7 +165,7 @@ fn nested(alloc: Global, depth: usize) -> Result<Vec<u8>, Memory> {
 #[test]
 fn arguments_expand_two_hundred_deep(rt: HostRuntime) -> Result<(), Fail> {
     let deepest = nested(rt.alloc(), 200)?;
-    let mut work = Work { left: PLENTY };
+    let mut work = working(PLENTY);
     let toks = expanded(
         rt.alloc(),
         PATH,

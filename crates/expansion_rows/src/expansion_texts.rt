@@ -97,6 +97,8 @@ fn first_macros(alloc: Global) -> Result<Macros, Memory>
     define(&mut macros, line)?;
     let file = first_definition(alloc, Form::File, b"__FILE__")?;
     define(&mut macros, file)?;
+    let counter = first_definition(alloc, Form::Counter, b"__COUNTER__")?;
+    define(&mut macros, counter)?;
     Ok(macros)
 }
 

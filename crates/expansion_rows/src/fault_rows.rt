@@ -6,7 +6,7 @@ pub type FaultRow = (&'static [u8], u32, &'static [u8], u32);
 /// So much work that these texts do not use it up.
 pub const PLENTY: u32 = 1000;
 
-pub const FAULTS: [FaultRow; 32] = [
+pub const FAULTS: [FaultRow; 33] = [
     // 6.10.3 paragraph 4: a call ends within its run
     (b"#define f(a) a\nf(1", PLENTY, b"open call", 15),
     (b"#define f(a) a\n1 f (1, (2)", PLENTY, b"open call", 17),
@@ -108,6 +108,7 @@ pub const FAULTS: [FaultRow; 32] = [
         31,
     ),
     (b"1 __LINE__", 0, b"too much work", 2),
+    (b"__COUNTER__ __COUNTER__", 1, b"too much work", 12),
     (b"#define a\na a", 1, b"too much work", 12),
 ];
 

@@ -221,3 +221,36 @@ pub const REPLACED: [Row; 52] = [
         b"\"4\" \"__LINE__\"",
     ),
 ];
+
+/// `__COUNTER__` of GNU C, as gcc expands it.
+pub const COUNTED: [Row; 9] = [
+    (b"__COUNTER__ __COUNTER__\n__COUNTER__", b"0 1 2"),
+    // An argument is expanded once, and not at all where it is an operand alone.
+    (
+        b"#define two(x) x x\ntwo(+ __COUNTER__) __COUNTER__",
+        b"+ 0 + 0 1",
+    ),
+    (
+        b"#define no(x)\n#define s(x) #x\nno(__COUNTER__) s(__COUNTER__) __COUNTER__",
+        b"\"__COUNTER__\" 0",
+    ),
+    (
+        b"#define j(x, y) x ## y\n#define k(x, y) j(x, y)\nk(c, __COUNTER__) j(__COUNT, ER__)",
+        b"c0 1",
+    ),
+    (
+        b"#define s(x) #x\n#define t(x) s(x)\n__COUNTER__ t(__COUNTER__)",
+        b"0 \"1\"",
+    ),
+    // From the first argument to the last.
+    (
+        b"#define f(x, y) x y x\nf(__COUNTER__, __COUNTER__ - __COUNTER__)",
+        b"0 1 - 2 0",
+    ),
+    (b"#define c __COUNTER__\nc c c", b"0 1 2"),
+    (b"__COUNTER__(__COUNTER__)", b"0(1)"),
+    (
+        b"__COUNTER__\n#define __COUNTER__ x\n__COUNTER__\n#undef __COUNTER__\n__COUNTER__",
+        b"0 x __COUNTER__",
+    ),
+];

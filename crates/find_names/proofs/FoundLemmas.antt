@@ -10,10 +10,15 @@ use Rattle.class_marks.specs.Keeping.{Keeps}
 use Rattle.class_marks.proofs.KeepLemmas.{keeps_all, keeps_each, keeps_more, keeps_none, keeps_same, keeps_sorted}
 use Rattle.query_words.specs.declared.attributes.Facts.{Facts}
 use Rattle.query_words.specs.declared.faults.QueryFault.{QueryFault}
+use Rattle.query_words.specs.declared.compiled.Compiled.{Compiled}
 use Rattle.query_words.specs.declared.faults.QueryFault.TheVariants.{Bad, Deep}
+use Rattle.query_words.specs.declared.faults.QueryRefusal.{QueryRefusal}
+use Rattle.query_words.specs.declared.faults.QueryRefusal.TheVariants.{Fault}
+use Rattle.query_words.specs.declared.faults.QueryRefusal.TheVariants.{Memory as NoMemory}
 use Rattle.query_words.specs.Queries.{Query, value}
 use Rattle.query_words.specs.Reading.{parsed}
 use Rattle.query_words.specs.Satisfying.{AreFacts, Satisfies}
+use Rattle.query_words.specs.Steps.{IsFault, IsOf, Means}
 use Rattle.query_words.specs.Walk.{decided}
 use Rattle.query_words.proofs.SatisfyingLemmas.{value_tells}
 use Rattle.find_names.specs.declared.refusal.FindRefusal.{FindRefusal}
@@ -24,25 +29,15 @@ use Rattle.find_names.specs.Satisfying.{HasAttribute, SatisfiesQuery}
 
 -- ---- queries and their faults
 
-fault_of_refusal : (query : List ℕ) (fault : QueryFault) → parsed query ≡ Err fault → Refuses query (refusal_of fault)
-fault_of_refusal query (Bad at) is = is
-fault_of_refusal query (Deep at) is = is
+pub refused_so : (query : List ℕ) (refusal : QueryRefusal) → IsFault (parsed query) refusal → Refuses query (refusal_of refusal)
+refused_so query (Fault (Bad at)) is = is
+refused_so query (Fault (Deep at)) is = is
+refused_so query NoMemory is = is
 
-fault_told : (v : Query → Bool) (read : Result Query QueryFault) (fault : QueryFault) → Err fault ≡ decided v read → read ≡ Err fault
-fault_told v (Ok q) fault is = absurd (cc)
-fault_told v (Err other) fault is = cc
-
--- a fault of a query refuses it
-pub refused_by : (query : List ℕ) (v : Query → Bool) (fault : QueryFault) → Err fault ≡ decided v (parsed query) → Refuses query (refusal_of fault)
-refused_by query v fault is = fault_of_refusal query fault (fault_told v (parsed query) fault is)
-
-query_told : (v : Query → Bool) (read : Result Query QueryFault) (b : Bool) → Ok b ≡ decided v read → (q : Query) × (read ≡ Ok q)
-query_told v (Ok q) b is = (q, refl)
-query_told v (Err fault) b is = absurd (cc)
-
--- a word without a fault is a query
-pub query_of : (query : List ℕ) (v : Query → Bool) (b : Bool) → Ok b ≡ decided v (parsed query) → (q : Query) × (parsed query ≡ Ok q)
-query_of query v b is = query_told v (parsed query) b is
+-- what the compiled query says is what the word says
+pub decided_so : (query : List ℕ) (compiled : Compiled) (facts : Facts) (spelling : List ℕ) (b : Bool) → IsOf query compiled
+    → ((q : Query) → Means q compiled → b ≡ value facts spelling q) → Ok b ≡ decided (value facts spelling) (parsed query)
+decided_so query compiled facts spelling b is says = rw is.is (ap Ok (says is.query is.means))
 
 value_told : (v : Query → Bool) (read : Result Query QueryFault) (b : Bool) (q : Query) → Ok b ≡ decided v read → read ≡ Ok q → b ≡ v q
 value_told v (Ok p) b q is same =

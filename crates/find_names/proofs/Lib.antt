@@ -1,4 +1,5 @@
 pub mod FoundLemmas
 pub mod GrammarLemmas
+mod KeywordLemmas
 pub mod QuestionLemmas
 pub mod TokenLemmas

@@ -5,6 +5,7 @@ ghost use Rattle.analysis.specs.Spellings.{spelling_of};
 ghost use Rattle.query_words.specs.Grammar.{Alternatives, Derives, IsRead};
 ghost use Rattle.query_words.specs.Queries.{Query, value};
 ghost use Rattle.query_words.specs.Reading.{depth_limit, parsed};
+ghost use Rattle.query_words.specs.Steps.{IsOf};
 ghost use Rattle.query_words.specs.Telling.{AreTold};
 ghost use Rattle.query_words.specs.Walk.{decided};
 ghost use Rattle.find_names.specs.FileTokens.{AreFileTokens};
@@ -20,30 +21,30 @@ use crate::role_marks::{RoleMarks, role_marks};
 use analysis::{Analysis, push_place};
 use cs_base::{Memory, Part};
 use itoa::Buffer;
-use query_words::{Facts, Told, satisfies};
+use query_words::{Compiled, Facts, Room, Told};
 use std::alloc::Global;
 
 // Whether the query says so of these attributes and the spelling of a class.
 fn is_said(
     a: &Analysis,
+    compiled: &Compiled,
     told: &mut Told,
     query: &[u8],
     facts: &Facts,
     part: Part,
-    places: &mut [bool],
-) -> Result<bool, FindRefusal>
-    requires few { length query.now < 2 ^ 32 }
-    requires room { length query.now < length places.old }
+    room: &mut Room,
+) -> Result<bool, Memory>
+    requires compiled { IsOf query.now compiled.now }
     requires part { IsPart a.now.value part }
     requires told { AreTold query.now told.old }
     ensures told { OnOk result (AreTold query.now told.new) }
     ensures answer { IfOk result (λ holds. Ok holds ≡ decided (value facts.now (spelling_of a.now.value part)) (parsed query.now)) }
-    ensures refused { IfErr result (Refuses query.now) }
 {
+    let _length = query.len();
     match told.known(facts) {
         Some(holds) => Ok(holds),
         None => {
-            let holds = satisfies(query, facts, a.spelling(part), places)?;
+            let holds = compiled.satisfied(facts, a.spelling(part), room)?;
             told.remember(facts, holds)?;
             Ok(holds)
         }
@@ -55,13 +56,13 @@ fn is_found(
     a: &Analysis,
     marks: &RoleMarks,
     tokens: &FileTokens,
+    compiled: &Compiled,
     told: &mut Told,
     query: &[u8],
     part: Part,
-    places: &mut [bool],
-) -> Result<bool, FindRefusal>
-    requires few { length query.now < 2 ^ 32 }
-    requires room { length query.now < length places.old }
+    room: &mut Room,
+) -> Result<bool, Memory>
+    requires compiled { IsOf query.now compiled.now }
     requires first { IsFirst a.now.value part }
     requires marks { AreRoleMarks a.now marks.now }
     requires tokens { AreFileTokens a.now.value tokens.now }
@@ -69,10 +70,9 @@ fn is_found(
     ensures told { OnOk result (AreTold query.now told.new) }
     ensures answer { IfOk result (λ b. (q : Query) → parsed query.now ≡ Ok q
         → MatchBool b (IsFound a.now.value q part) (IsFound a.now.value q part → ⊥)) }
-    ensures refused { IfErr result (Refuses query.now) }
 {
     let facts = facts_of(a, marks, tokens, part);
-    let satisfied = is_said(a, told, query, &facts, part, places)?;
+    let satisfied = is_said(a, compiled, told, query, &facts, part, room)?;
     if !satisfied {
         return Ok(false);
     }
@@ -110,65 +110,27 @@ fn lines(
     a: &Analysis,
     marks: &RoleMarks,
     tokens: &FileTokens,
+    compiled: &Compiled,
     query: &[u8],
-    places: &mut [bool],
-) -> Result<Vec<u8>, FindRefusal>
-    requires few { length query.now < 2 ^ 32 }
-    requires room { length query.now < length places.old }
+) -> Result<Vec<u8>, Memory>
+    requires compiled { IsOf query.now compiled.now }
     requires marks { AreRoleMarks a.now marks.now }
     requires tokens { AreFileTokens a.now.value tokens.now }
-    ensures answer { IfOk result (λ text. (q : Query) → parsed query.now ≡ Ok q → PrintsFound a.now.value q text.items) }
-    ensures refused { IfErr result (Refuses query.now) }
+    ensures { IfOk result (λ text. (q : Query) → parsed query.now ≡ Ok q → PrintsFound a.now.value q text.items) }
 {
     let firsts = a.firsts();
     let mut told = Told::of(alloc, query);
+    let mut room = Room::new(alloc);
     let mut text = Vec::new(alloc);
     for part in firsts {
-        let found = is_found(a, marks, tokens, &mut told, query, *part, places)?;
+        let found = is_found(
+            a, marks, tokens, compiled, &mut told, query, *part, &mut room,
+        )?;
         if found {
             push_line(&mut text, a, *part)?;
         }
     }
     Ok(text)
-}
-
-// No attributes.
-fn no_facts() -> Facts {
-    Facts {
-        macro_: false,
-        function: false,
-        object: false,
-        typedef: false,
-        parameter: false,
-        enumerator: false,
-        tag: false,
-        member: false,
-        label: false,
-        external: false,
-        read_only: false,
-        unused: false,
-        cut: false,
-    }
-}
-
-// Refuses a word that is no query.
-fn check(query: &[u8], places: &mut [bool]) -> Result<(), FindRefusal>
-    requires few { length query.now < 2 ^ 32 }
-    requires room { length query.now < length places.old }
-    ensures answer { IfOk result (λ _. (q : Query) × (parsed query.now ≡ Ok q)) }
-    ensures refused { IfErr result (Refuses query.now) }
-{
-    let facts = no_facts();
-    let _satisfied = satisfies(query, &facts, b"", places)?;
-    Ok(())
-}
-
-// Room for the places of each pattern of a query.
-fn places_for(alloc: Global, query: &[u8]) -> Result<Vec<bool>, Memory>
-    requires { length query.now < 2 ^ 32 }
-    ensures { IfOk result (λ places. length query.now < length places.items) }
-{
-    Ok(vec![in alloc; false; query.len() + 1]?)
 }
 
 /// A line for each class in question that satisfies the query: `PATH:LINE:COL COUNT TEXT`, with the place of the first
@@ -192,10 +154,9 @@ fn found(alloc: Global, a: &Analysis, query: &[u8]) -> Result<Vec<u8>, FindRefus
     if query.len() > u32::MAX as usize {
         return Err(FindRefusal::Memory);
     }
-    let mut room = places_for(alloc, query)?;
-    let places = room.as_mut_slice();
-    check(query, places)?;
+    let compiled = Compiled::of(alloc, query)?;
     let marks = role_marks(alloc, a)?;
     let tokens = FileTokens::of(alloc, a)?;
-    lines(alloc, a, &marks, &tokens, query, places)
+    let text = lines(alloc, a, &marks, &tokens, &compiled, query)?;
+    Ok(text)
 }

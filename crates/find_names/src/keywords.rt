@@ -3,6 +3,7 @@
 ghost use Rattle.std.specs.Prelude.{◌≡◌, ◌||◌};
 ghost use Rattle.std.specs.List.{list_any};
 ghost use Rattle.std.specs.Str.{bytes_eq};
+ghost use Rattle.cs_base.specs.declared.ws_units.Standard.TheVariants.{Gnu11};
 ghost use Rattle.cs_base.specs.Reserved.{keywords_of_c11, keywords_to_end, keywords_to_if, keywords_to_struct};
 ghost use Rattle.find_names.specs.Keywords.{is_keyword, is_keyword_of, is_old_keyword};
 
@@ -118,10 +119,21 @@ fn is_keyword_of(text: &[u8], standard: Standard) -> bool
     }
 }
 
+// A keyword of some standard: GNU C has the words of all.
+fn is_some_keyword(text: &[u8]) -> bool
+    ensures { result ≡ is_keyword_of text.now Gnu11 }
+{
+    is_keyword_of(text, Standard::Gnu11)
+}
+
 /// Whether this is a keyword of the standard of some unit.
 pub(crate) fn is_keyword(units: &[Unit], text: &[u8]) -> bool
     ensures { result ≡ is_keyword units.now text.now }
 {
+    // Most names are none, and are looked at once and not for each unit.
+    if !is_some_keyword(text) {
+        return false;
+    }
     for unit in units {
         if is_keyword_of(text, unit.standard()) {
             return true;

@@ -7,7 +7,7 @@
 //! `class_marks`, what is unused to `unused_names`. Refused is a word that is no query, by its first fault; want of
 //! memory is answered `Memory`, and so is a query of 2^32 bytes or more. It costs one walk over all names, whose classes
 //! are found once for all that is asked of them, one over the tokens of all files, and one over the members of all
-//! classes. The query is read for each class; one that asks for no spelling, once for all classes with the same
+//! classes. The query is read once; one that asks for no spelling is asked once for all classes with the same
 //! attributes. Read the three files, then `found_classes.rt`.
 #![tactic(auto)]
 

@@ -2,7 +2,7 @@
 ghost use Rattle.std.specs.Prelude.{◌≡◌};
 
 use cs_base::Memory as NoMemory;
-use query_words::QueryFault;
+use query_words::{QueryFault, QueryRefusal};
 
 /// Why there is no answer to a query.
 #[derive(Clone, Copy, Debug, PartialEq, Eq)]
@@ -25,16 +25,17 @@ impl From<NoMemory> for FindRefusal {
     }
 }
 
-impl From<QueryFault> for FindRefusal {
+impl From<QueryRefusal> for FindRefusal {
     ghost use Rattle.std.specs.Prelude.{◌≡◌};
     ghost use Rattle.find_names.specs.Refusals.{refusal_of};
 
-    ghost from_gives = { λ fault e. e ≡ refusal_of fault };
+    ghost from_gives = { λ refusal e. e ≡ refusal_of refusal };
 
-    fn from(fault: QueryFault) -> Self {
-        match fault {
-            QueryFault::Bad { at } => FindRefusal::BadQuery { at },
-            QueryFault::Deep { at } => FindRefusal::TooDeep { at },
+    fn from(refusal: QueryRefusal) -> Self {
+        match refusal {
+            QueryRefusal::Fault(QueryFault::Bad { at }) => FindRefusal::BadQuery { at },
+            QueryRefusal::Fault(QueryFault::Deep { at }) => FindRefusal::TooDeep { at },
+            QueryRefusal::Memory => FindRefusal::Memory,
         }
     }
 }

@@ -5,3 +5,5 @@ mod BoundLemmas
 mod StandardLemmas
 pub mod Below
 mod JoinedLemmas
+mod GnuCarried
+mod FrontLemmas

@@ -10,5 +10,6 @@ pub mod OpenLists
 pub mod Walk
 pub mod Bound
 pub mod Standards
+pub mod Fronts
 -- Words of the crates below, passed on.
 pub mod Below

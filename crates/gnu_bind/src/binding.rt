@@ -5,14 +5,13 @@ ghost use Rattle.c_types.specs.Lists.{lists_in, calls_in, bare_in};
 ghost use Rattle.c_types.specs.Faults.{fault_of};
 ghost use Rattle.scope_bind.specs.Known.{known};
 ghost use Rattle.gnu_bind.specs.Bound.{facts_of, gnu_binding_of, binding_by};
-ghost use Rattle.c99_tree.specs.Joined.{joined, followed};
 
 use crate::senses::usual_sense;
 use crate::walking::walk;
 use c_types::{BindRefusal, Shown};
 use c99_tree::Tree;
 use cs_base::{Memory, Standard, Tok};
-use scope_bind::{Bound, Facts, bound_behind, bound_unless, count_of, outermost};
+use scope_bind::{Bound, Facts, bound_unless, count_of, outermost};
 use std::alloc::Global;
 
 // What is known at the end of the unit. What its tree tells by itself is told as well.
@@ -30,26 +29,6 @@ fn facts_of<'a>(
     let mut frame = outermost(alloc, count_of(toks)?);
     let mut facts = Facts::new(alloc, toks)?;
     walk(&mut facts, alloc, usual_sense(), tree, &mut frame, shown)?;
-    Ok(facts)
-}
-
-// The same of a unit whose tree is told in two parts.
-fn facts_behind<'a>(
-    alloc: Global,
-    toks: &'a [Tok],
-    front: &Tree,
-    rest: &Tree,
-    shown: &mut Shown,
-) -> Result<Facts<'a>, Memory>
-    ensures facts { IfOk result (λ f. f ≡ known toks.now (facts_of toks.now (joined front.now.under rest.now.under))) }
-    ensures lists { OnOk result (shown.new.lists.items ≡ shown.old.lists.items ++ lists_in (joined front.now.under rest.now.under)) }
-    ensures calls { OnOk result (shown.new.calls.items ≡ shown.old.calls.items ++ calls_in (joined front.now.under rest.now.under)) }
-    ensures bare { OnOk result (shown.new.bare.items ≡ shown.old.bare.items ++ bare_in (joined front.now.under rest.now.under)) }
-{
-    let mut frame = outermost(alloc, count_of(toks)?);
-    let mut facts = Facts::new(alloc, toks)?;
-    walk(&mut facts, alloc, usual_sense(), front, &mut frame, shown)?;
-    walk(&mut facts, alloc, usual_sense(), rest, &mut frame, shown)?;
     Ok(facts)
 }
 
@@ -79,30 +58,5 @@ pub fn bind_by(
     match standard {
         Standard::C99 | Standard::C11 => scope_bind::bind(alloc, toks, tree),
         Standard::Gnu99 | Standard::Gnu11 => bind(alloc, toks, tree),
-    }
-}
-
-// The same as `bind` of a unit whose tree is told in two parts.
-fn bind_behind(alloc: Global, toks: &[Tok], front: &Tree, rest: &Tree) -> Result<Bound, BindRefusal>
-    ensures answer { Gives (λ b. b) fault_of result (gnu_binding_of toks.now (followed front.now rest.now)) }
-{
-    let mut shown = Shown::new(alloc);
-    let facts = facts_behind(alloc, toks, front, rest, &mut shown)?;
-    bound_behind(alloc, front, rest, &facts, shown)
-}
-
-/// The same of a translation unit whose tree is told in two parts: its first external declarations, and the others.
-pub fn bind_behind_by(
-    alloc: Global,
-    toks: &[Tok],
-    front: &Tree,
-    rest: &Tree,
-    standard: Standard,
-) -> Result<Bound, BindRefusal>
-    ensures answer { Gives (λ b. b) fault_of result (binding_by standard toks.now (followed front.now rest.now)) }
-{
-    match standard {
-        Standard::C99 | Standard::C11 => scope_bind::bind_behind(alloc, toks, front, rest),
-        Standard::Gnu99 | Standard::Gnu11 => bind_behind(alloc, toks, front, rest),
     }
 }

@@ -1,4 +1,7 @@
-// How the binding of GNU C and that of the standards agree: a law that no caller runs, and that callers' proofs cite.
+// How the binding of GNU C and that of the standards agree, and what beginnings of texts bind: laws that no caller runs, and that
+// callers' proofs cite.
+ghost use Rattle.scope_bind.specs.Carried.{FrontsBindAlike};
+ghost use Rattle.gnu_bind.specs.Fronts.{GnuFrontsBindAlike};
 ghost use Rattle.gnu_bind.specs.Standards.{StandardTextsBindAlike, StandardsBindAlike};
 
 /// A text that uses nothing of GNU C binds by it as by the standards.
@@ -9,4 +12,15 @@ pub fn standard_texts_bind_alike()
 /// A unit of C99 or C11 binds by its edition, and one of `gnu99` or `gnu11` as GNU C binds it.
 pub fn standards_bind_alike()
     ensures { StandardsBindAlike }
+{}
+
+/// What is known behind a part of a text that ends before its last token is known behind it in each text that begins
+/// with the same tokens, but for the end of file scope.
+pub fn fronts_bind_alike()
+    ensures { FrontsBindAlike }
+{}
+
+/// So it is in GNU C.
+pub fn gnu_fronts_bind_alike()
+    ensures { GnuFrontsBindAlike }
 {}

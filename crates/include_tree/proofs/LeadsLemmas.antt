@@ -8,7 +8,7 @@ use Rattle.source_files.specs.Tables.{Widens}
 use Rattle.source_files.proofs.TableLemmas.{widens_refl, widens_trans}
 
 -- a step that puts out nothing
-pub leads_by : (ctx : Context) (s t : State) → t.before ≡ s.before → t.work ≤ s.work → Widens ctx.source s.table t.table → Leads ctx s 0 t
+pub leads_by : (ctx : Context) (s t : State) → t.before ≡ s.before → t.work.left ≤ s.work.left → Widens ctx.source s.table t.table → Leads ctx s 0 t
 leads_by ctx s t same falls wide = record {
   counted = omega (arith, same);
   few = λ h. omega (arith, same, h);

@@ -7,6 +7,7 @@ pub mod DepthLemmas
 pub mod ItemToksLemmas
 pub mod GivenLemmas
 pub mod SettingsLemmas
+pub mod DefinesLemmas
 pub mod UnitLemmas
 pub mod WalkingLemmas
 pub mod AskingLemmas
@@ -16,6 +17,7 @@ pub mod WalksLemmas
 pub mod StayLemmas
 pub mod StayingWalk
 pub mod PseudoLemmas
+pub mod SharedLemmas
 -- Words of the crates below, passed on.
 pub mod Below
 pub mod EditedLemmas

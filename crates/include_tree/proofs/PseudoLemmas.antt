@@ -11,9 +11,10 @@ use Rattle.source_files.specs.Limits.{Limits}
 use Rattle.source_files.specs.Files.{Source, Found, Made, Entry, Table, Carried, found_at, found_in, numbered, opened, defines_path}
 use Rattle.unit_steps.specs.State.{Context, context, State}
 use Rattle.source_files.specs.Opening.{Reader}
-use Rattle.include_tree.specs.Unit.{first_state, unit_outcome}
+use Rattle.include_tree.specs.Unit.{pseudo_path, first_state, unit_outcome}
 use Rattle.include_tree.specs.Laws.{IfDone}
 use Rattle.include_tree.specs.PseudoFiles.{is_pseudo}
+use Rattle.include_tree.proofs.DefinesLemmas.{with_defines_has}
 use Rattle.include_tree.proofs.StayLemmas.{IsStable}
 use Rattle.include_tree.proofs.StayingWalk.{both_files_stay}
 
@@ -92,6 +93,7 @@ pub others_stay : (limits : Limits) (reader : Reader) (source : Source) (number 
 others_stay limits reader source number other unit before real few few2 apart none =
     let ctx : Context = context source reader unit limits before.toks in
     let s : State = first_state limits number unit before.table in
-    both_files_stay ctx (Lacks (defines_path other)) (pseudo_stable source (defines_path other) refl) (defines_path number) unit.path s real
+    both_files_stay ctx (Lacks (defines_path other)) (pseudo_stable source (defines_path other) refl) (pseudo_path number unit before.table) unit.path s real
+    (with_defines_has (Lacks (defines_path other)) number unit before.table none
     (lacks-push (defines_path other) (defines_path number) (Made (defines_of unit)) before.table
-    (defines-apart other number few2 few apart) none)
+    (defines-apart other number few2 few apart) none))

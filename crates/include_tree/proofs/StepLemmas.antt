@@ -10,6 +10,7 @@ use Rattle.source_files.specs.Below.line_shape.Signs.{is_name}
 use Rattle.unit_steps.specs.Below.cond_eval.declared.faults.CondFault.{CondFault}
 use Rattle.unit_steps.specs.Below.cond_eval.Evaluation.{condition}
 use Rattle.unit_steps.specs.Below.macro_body.declared.definitions.Definition.{Definition}
+use Rattle.unit_steps.specs.Below.macro_body.declared.notes.Work.{Work}
 use Rattle.unit_steps.specs.Below.macro_body.Hides.{unhidden}
 use Rattle.unit_steps.specs.Below.macro_body.Macro.{Table as Macros}
 use Rattle.unit_steps.specs.Below.macro_body.Notes as expansion
@@ -38,13 +39,13 @@ PutsOut ctx s toks t = Leads ctx s (length toks) t
 
 -- ---- expansions
 
-expansion_falls : (macros : Macros) (path : List ℕ) (toks : List Token) (work : ℕ) (e : expansion.Expanded)
-    → expansion macros path toks work ≡ Ok e → e.left ≤ work
+expansion_falls : (macros : Macros) (path : List ℕ) (toks : List Token) (work : Work) (e : expansion.Expanded)
+    → expansion macros path toks work ≡ Ok e → e.left.left ≤ work.left
 unfolding expansion
 expansion_falls macros path toks work e h = whole_falls (record { table = macros; path = path }) 0 0 (unhidden toks) work e h
 
 expanded_as_leads : (ctx : Context) (run : Bool) (file : SourceFile) (s : State) (r : Result expansion.Expanded expansion.Fault)
-    → ((e : expansion.Expanded) → r ≡ Ok e → e.left ≤ s.work) → IfDone (Behind {A = List Token} ctx s) (expanded_as run file s r)
+    → ((e : expansion.Expanded) → r ≡ Ok e → e.left.left ≤ s.work.left) → IfDone (Behind {A = List Token} ctx s) (expanded_as run file s r)
 expanded_as_leads ctx run file s (Ok e) falls =
     leads_by ctx s (record s { work = e.left }) refl (falls e refl) (widens_refl ctx.source s.table)
 expanded_as_leads ctx run file s (Err found) falls = tt

@@ -1,5 +1,5 @@
 -- Units, one file after the other.
-use Rattle.std.proofs.Common.{◌≡◌, ℕ, ◌+◌, ◌<◌, ◌^◌, ◌==◌, ◌&&◌, true, not, List, ◌++◌, length, Option, Some, None, Result, Ok, Err, refl, sym, ◌∙◌, ap, subst, append_assoc}
+use Rattle.std.proofs.Common.{◌≡◌, ℕ, ◌+◌, ◌<◌, ◌^◌, ◌==◌, ◌&&◌, Bool, true, not, List, ◌++◌, length, Option, Some, None, Result, Ok, Err, refl, sym, ◌∙◌, ap, subst, append_assoc}
 use Rattle.std.specs.Prelude.{IfSome, codes}
 use Rattle.std.specs.Fmt.{decimal}
 use Rattle.std.specs.Str.{is_utf8, chars}
@@ -11,10 +11,10 @@ use Rattle.cs_base.specs.Answer.{Gives}
 use Rattle.cs_base.specs.Token.{Token}
 use Rattle.cs_base.specs.declared.positions.Place.{Place}
 use Rattle.source_files.specs.Below.lexer.FileText.{file_text}
-use Rattle.cs_base.specs.Units.{UnitValue, defines_of, IsUnit, is_unit_path, is_writable, begins_with, less_sign}
+use Rattle.cs_base.specs.Units.{UnitValue, is_gnu, defines_of, IsUnit, is_unit_path, is_writable, begins_with, less_sign}
 use Rattle.source_files.specs.declared.pre_fault.PreFault.{PreFault}
 use Rattle.source_files.specs.Limits.{the_limits}
-use Rattle.source_files.specs.Files.{Source, Made, Table, Carried, carried, defines_path, numbered, asked}
+use Rattle.source_files.specs.Files.{Source, Made, Table, Carried, carried, defines_path, made_path, numbered, asked}
 use Rattle.source_files.specs.Faults.{Fault, first_place}
 use Rattle.unit_steps.specs.Notes.{Note}
 use Rattle.unit_steps.specs.State.{State, Did, Outcome, only, noted, onward}
@@ -23,7 +23,8 @@ use Rattle.include_tree.specs.OpeningStep.{with_opened}
 use Rattle.source_files.specs.Search.{can_be_asked}
 use Rattle.include_tree.specs.Including.{Process}
 use Rattle.include_tree.specs.Walk.{file_items}
-use Rattle.include_tree.specs.Unit.{first_state, outer_file, main_file}
+use Rattle.unit_steps.specs.Below.macro_body.Defining.{first_macros}
+use Rattle.include_tree.specs.Unit.{pseudo_path, with_defines, first_state, outer_file, main_file}
 use Rattle.unit_steps.specs.Texts.{UnitTextValue}
 use Rattle.include_tree.specs.Preprocessed.{preprocessed_by, preprocessed, with_text}
 use Rattle.unit_steps.specs.Keeping.{no_text, noted_in, put_in, kept_after, put_after}
@@ -94,11 +95,25 @@ outer-refused k e m u s next h = refused-fault k m s next (fault_of e) h
 
 -- ---- the pseudo file of a unit
 
-abbrev pub with_defines : ℕ → UnitValue → Table → Table
-with_defines number unit t = numbered (defines_path number) (Made (defines_of unit)) t
-
 abbrev pub defines_opening : ℕ → UnitValue → Table → Opening
-defines_opening number unit t = opening the_limits file_text (first_place (defines_path number)) (defines_path number) (with_defines number unit t)
+defines_opening number unit t = opening the_limits file_text (first_place (pseudo_path number unit t)) (pseudo_path number unit t) (with_defines number unit t)
+
+-- that of an earlier unit
+pub shared-opening : (r : Result ℕ PreFault) (number : ℕ) (unit : UnitValue) (t u : Table) (text path : List ℕ) → text ≡ defines_of unit → made_path text t ≡ Some path
+    → GivesOpening r (opening the_limits file_text (first_place path) path t) u → GivesOpening r (defines_opening number unit t) u
+shared-opening r number unit t u text path is found h =
+    let shared : made_path (defines_of unit) t ≡ Some path = subst (λ (x : List ℕ). made_path x t ≡ Some path) is found in
+    rw shared h
+
+-- one of its own
+pub own-opening : (r : Result ℕ PreFault) (number : ℕ) (unit : UnitValue) (t u : Table) (text : List ℕ) → text ≡ defines_of unit → made_path text t ≡ None
+    → GivesOpening r (opening the_limits file_text (first_place (defines_path number)) (defines_path number) (numbered (defines_path number) (Made text) t)) u
+    → GivesOpening r (defines_opening number unit t) u
+own-opening r number unit t u text is none h =
+    let own : made_path (defines_of unit) t ≡ None = subst (λ (x : List ℕ). made_path x t ≡ None) is none in
+    let made : GivesOpening r (opening the_limits file_text (first_place (defines_path number)) (defines_path number) (numbered (defines_path number) (Made (defines_of unit)) t)) u =
+    subst (λ (x : List ℕ). GivesOpening r (opening the_limits file_text (first_place (defines_path number)) (defines_path number) (numbered (defines_path number) (Made x) t)) u) is h in
+    rw own made
 
 -- that of the unit's own file
 abbrev pub main_opening : List ℕ → Table → Source → Opening
@@ -122,22 +137,27 @@ by-refused : (earlier : ℕ) (o : Outcome (List Token)) (f : Fault) → put_afte
 by-refused earlier (Ok d) f h = absurd (cc)
 by-refused earlier (Err g) f h = ap (λ (x : Fault). Err x) (put_fault g f h)
 
--- the steps of the two files, the first of which begins with this text
-abbrev pub FirstGives : Source → ℕ → UnitValue → ℕ → State → UnitTextValue → Result (State × UnitTextValue) Fault → Type 0
-FirstGives source number unit earlier s k r = put_after k (outer_file (unit_context source unit earlier) (defines_path number) s) ≡ r
+-- a unit begins with the macros of its standard
+pub begun-as : (number : ℕ) (unit : UnitValue) (table : Table) (gnu : Bool) (s : State) → gnu ≡ is_gnu unit.standard
+    → s ≡ record (first_state the_limits number unit table) { macros = first_macros gnu } → s ≡ first_state the_limits number unit table
+begun-as number unit table gnu s same is = is ∙ ap (λ (b : Bool). record (first_state the_limits number unit table) { macros = first_macros b }) same
+
+-- the steps of the two files, the first of which has this path and begins with this text
+abbrev pub FirstGives : Source → List ℕ → UnitValue → ℕ → State → UnitTextValue → Result (State × UnitTextValue) Fault → Type 0
+FirstGives source path unit earlier s k r = put_after k (outer_file (unit_context source unit earlier) path s) ≡ r
 
 abbrev pub NextGives : Source → UnitValue → ℕ → State → UnitTextValue → Result (State × UnitTextValue) Fault → Type 0
 NextGives source unit earlier t k r = put_after k (main_file (unit_context source unit earlier) unit.path t) ≡ r
 
 module _ (number : ℕ) (unit : UnitValue) (before : Carried) (s : State) (k : UnitTextValue)
     (begun : s ≡ first_state the_limits number unit before.table) (nothing : k ≡ no_text) where
-  first : (source : Source) (r : Result (State × UnitTextValue) Fault) → FirstGives source number unit before.toks s k r
-      → FirstGives source number unit before.toks (first_state the_limits number unit before.table) no_text r
+  first : (source : Source) (r : Result (State × UnitTextValue) Fault) → FirstGives source (pseudo_path number unit before.table) unit before.toks s k r
+      → FirstGives source (pseudo_path number unit before.table) unit before.toks (first_state the_limits number unit before.table) no_text r
   first source r h =
-      subst (λ (x : State). FirstGives source number unit before.toks x no_text r) begun (subst (λ (x : UnitTextValue). FirstGives source number unit before.toks s x r) nothing h)
+      subst (λ (x : State). FirstGives source (pseudo_path number unit before.table) unit before.toks x no_text r) begun (subst (λ (x : UnitTextValue). FirstGives source (pseudo_path number unit before.table) unit before.toks s x r) nothing h)
 
   -- both files are walked
-  pub unit-done : (source : Source) (t u : State) (k2 k3 : UnitTextValue) (after : Carried) → FirstGives source number unit before.toks s k (Ok (t, k2))
+  pub unit-done : (source : Source) (t u : State) (k2 k3 : UnitTextValue) (after : Carried) → FirstGives source (pseudo_path number unit before.table) unit before.toks s k (Ok (t, k2))
       → NextGives source unit before.toks t k2 (Ok (u, k3)) → after ≡ carried u.table (before.toks + length k3.toks)
       → preprocessed source number unit before ≡ Ok (with_text after k3)
   unfolding preprocessed
@@ -146,14 +166,14 @@ module _ (number : ℕ) (unit : UnitValue) (before : Carried) (s : State) (k : U
       ∙ ap (λ (c : Carried). Ok (with_text c k3)) (sym is)
 
   -- there is a fault in the first
-  pub unit-first_refused : (source : Source) (o : Option Fault) → IfSome o (λ f. FirstGives source number unit before.toks s k (Err f))
+  pub unit-first_refused : (source : Source) (o : Option Fault) → IfSome o (λ f. FirstGives source (pseudo_path number unit before.table) unit before.toks s k (Err f))
       → IfSome o (λ f. preprocessed source number unit before ≡ Err f)
   unfolding preprocessed
   unit-first_refused source None h = tt
   unit-first_refused source (Some f) h = by-refused before.toks _ f (put-both_fault no_text _ _ f (first source (Err f) h))
 
   -- there is one in the file of the unit
-  pub unit-next_refused : (source : Source) (o : Option Fault) (t : State) (k2 : UnitTextValue) → FirstGives source number unit before.toks s k (Ok (t, k2))
+  pub unit-next_refused : (source : Source) (o : Option Fault) (t : State) (k2 : UnitTextValue) → FirstGives source (pseudo_path number unit before.table) unit before.toks s k (Ok (t, k2))
       → IfSome o (λ f. NextGives source unit before.toks t k2 (Err f)) → IfSome o (λ f. preprocessed source number unit before ≡ Err f)
   unfolding preprocessed
   unit-next_refused source None t k2 h j = tt

@@ -26,9 +26,10 @@ use Rattle.unit_steps.specs.Conditions.{asked_toks, judged}
 use Rattle.unit_steps.specs.Questions.{Question, Unasked, Looks, Lacks, asks_next, questions_from, found_as}
 use Rattle.include_tree.specs.Asking.{there, is_there, look, looked, gnu_known, gnu_asked, gnu_holds, asks_files, opens_in, goes_in}
 use Rattle.include_tree.specs.Walk.{ItemText, items_in, processed, Stepped, stepped, go_on, opens, goes_on, reaching_alive, in_section, turned, is_foreign, foreign_line, item_step, file_end, walk, file_items}
-use Rattle.include_tree.specs.Unit.{first_state, outer_file, main_file, both_files, unit_outcome}
+use Rattle.include_tree.specs.Unit.{pseudo_path, first_state, outer_file, main_file, both_files, unit_outcome}
 use Rattle.include_tree.specs.Laws.{IfDone, Leads, UnitEnds}
 use Rattle.source_files.specs.Tables.{Widens}
+use Rattle.include_tree.proofs.DefinesLemmas.{with_defines_has}
 use Rattle.include_tree.proofs.OutcomeLemmas.{noted_done, onward_done, cond_done}
 use Rattle.source_files.proofs.TableLemmas.{widens_refl, widens_trans, widens_asked, widens_push}
 use Rattle.include_tree.proofs.LeadsLemmas.{leads_by, leads_refl, leads_trans, leads_as}
@@ -367,7 +368,7 @@ both_files_lead ctx defines path s =
     (λ more u g. both_lead ctx s t u toks more h g))
 
 -- the ends of a unit
-unit_ended : (ctx : Context) (before : Table) (s : State) → s.before ≡ 0 → s.work ≤ ctx.limits.work → Widens ctx.source before s.table
+unit_ended : (ctx : Context) (before : Table) (s : State) → s.before ≡ 0 → s.work.left ≤ ctx.limits.work → Widens ctx.source before s.table
     → (m : Outcome (List Token)) → IfDone (PutsOut ctx s) m → IfDone (λ toks t. UnitEnds ctx before (length toks) t) m
 unit_ended ctx before s none work wide (Ok d) h = record {
   counted = omega (arith, h.counted, none);
@@ -384,5 +385,7 @@ pub units_end : (limits : Limits) (reader : Reader) (source : Source) (number : 
 units_end limits reader source number unit before none =
     let ctx : Context = context source reader unit limits before.toks in
     let s : State = first_state limits number unit before.table in
-    unit_ended ctx before.table s refl (omega arith) (widens_push source (defines_path number) (Made (defines_of unit)) before.table none tt)
-    (unit_outcome limits reader source number unit before) (both_files_lead ctx (defines_path number) unit.path s)
+    unit_ended ctx before.table s refl (omega arith)
+    (with_defines_has (Widens source before.table) number unit before.table (widens_refl source before.table)
+    (widens_push source (defines_path number) (Made (defines_of unit)) before.table none tt))
+    (unit_outcome limits reader source number unit before) (both_files_lead ctx (pseudo_path number unit before.table) unit.path s)

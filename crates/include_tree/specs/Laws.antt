@@ -23,7 +23,7 @@ IfDone P (Err fault) = Unit {0}
 pub record Leads (ctx : Context) (s : State) (toks : ℕ) (t : State) : Type 0 where
   pub counted : t.before ≡ s.before + toks
   pub few : s.before ≤ most_toks ctx → t.before ≤ most_toks ctx
-  pub work : t.work ≤ s.work
+  pub work : t.work.left ≤ s.work.left
   pub table : Widens ctx.source s.table t.table
 
 -- It is true of the items of each file.
@@ -41,7 +41,7 @@ DepthIsALimit = (ctx : Context) (room more : ℕ) (file : SourceFile) (s : State
 pub record UnitEnds (ctx : Context) (before : Table) (toks : ℕ) (t : State) : Type 0 where
   pub counted : t.before ≡ toks
   pub few : toks ≤ most_toks ctx
-  pub work : t.work ≤ ctx.limits.work
+  pub work : t.work.left ≤ ctx.limits.work
   pub table : Widens ctx.source before t.table
 
 -- It is true of each unit whose pseudo file was not met.

@@ -1,7 +1,7 @@
 // What is true of all units: laws that no caller runs, and that callers' proofs cite.
 ghost use Rattle.include_tree.specs.Laws.{FilesLead, UnitsEnd, DepthIsALimit};
 ghost use Rattle.source_files.specs.Tables.{EarlierFound, SomeAgrees};
-ghost use Rattle.include_tree.specs.PseudoFiles.{OthersStay};
+ghost use Rattle.include_tree.specs.PseudoFiles.{EqualSettingsShare, OthersStay};
 
 /// Tokens that are put out are counted, and stay within the limits; work never rises; and the table of
 /// files only grows, stays what the files hold, and has each path once, so that each is asked for once.
@@ -25,4 +25,10 @@ pub fn depth_is_a_limit()
 /// A unit gives numbers to no pseudo files of other units.
 pub fn pseudo_files_are_of_their_units()
     ensures others { OthersStay }
+{}
+
+/// Units of equal standards, settings and files included before their own begin with one pseudo file, that of the
+/// first of them.
+pub fn equal_settings_share()
+    ensures share { EqualSettingsShare }
 {}

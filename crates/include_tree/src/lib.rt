@@ -27,7 +27,8 @@ mod unit_walk;
 mod walking;
 
 pub use laws::{
-    depth_is_a_limit, pseudo_files_are_of_their_units, tables_only_grow, units_are_counted,
+    depth_is_a_limit, equal_settings_share, pseudo_files_are_of_their_units, tables_only_grow,
+    units_are_counted,
 };
 pub use source_files::{Cache, GnuLine, Item, ItemKind, KeptFile, PreFault, begins_header};
 pub use unit_steps::{Event, EventKind, Reached, UnitText};

@@ -1,15 +1,15 @@
 // A unit, preprocessed (5.1.1.2 phase 4).
-ghost use Rattle.std.specs.Prelude.{◌≡◌, None, true, IfOk, IfErr, IsSome, OnErr};
+ghost use Rattle.std.specs.Prelude.{◌≡◌, None, true, false, IfOk, IfErr, IsSome, OnErr};
+ghost use Rattle.std.specs.Str.{bytes_eq};
 ghost use Rattle.cs_base.specs.Answer.{Gives};
-ghost use Rattle.cs_base.specs.Units.{defines_of};
 ghost use Rattle.source_files.specs.Below.lexer.FileText.{file_text};
 ghost use Rattle.cs_base.specs.Outside.{ReadsOnly};
 ghost use Rattle.source_files.specs.Limits.{the_limits};
-ghost use Rattle.source_files.specs.Files.{Source, Made, defines_path, found_at, numbered, asked};
+ghost use Rattle.source_files.specs.Files.{Source, Made, defines_path, found_at, lines_path, numbered, asked};
 ghost use Rattle.source_files.specs.Faults.{first_place};
 ghost use Rattle.source_files.specs.Search.{can_be_asked};
 ghost use Rattle.source_files.specs.Opening.{opening};
-ghost use Rattle.include_tree.specs.Unit.{outer_file, main_file};
+ghost use Rattle.include_tree.specs.Unit.{pseudo_path, with_defines, outer_file, main_file};
 ghost use Rattle.source_files.specs.Tables.{AreFound, IsGrown, StaysHeld};
 ghost use Rattle.include_tree.specs.Preprocessed.{preprocessed, with_text};
 ghost use Rattle.unit_steps.specs.Keeping.{put_after};
@@ -28,21 +28,51 @@ use unit_steps::{Progress, UnitText};
 // So many more files may be open inside the pseudo file, and inside that of the unit.
 const MOST_INSIDE: u32 = 199;
 
-// The number of the pseudo file of the unit, which is made unless its path was met.
-fn make_defines(alloc: Global, cache: &mut Cache, unit: &Unit, number: u32) -> Result<u32, PreFault>
+// The number of a file of a path that was met, opened for a unit.
+fn open_met(alloc: Global, cache: &mut Cache, path: &[u8]) -> Result<u32, PreFault>
+    requires { bytes_eq path.now lines_path ≡ false }
+    ensures answer { GivesOpening result (opening the_limits file_text (first_place path.now) path.now cache.old.table) cache.new.table }
+    ensures there { IfOk result (λ n. IsSome (source_at cache.new.table n)) }
+    ensures keeps { Keeps cache.old cache.new }
+    ensures no_read { IfErr result IsNoReadFault }
+{
+    match first_place(alloc, path) {
+        Ok(place) => open_file(alloc, cache, path, &place),
+        Err(_) => Err(PreFault::Memory),
+    }
+}
+
+// The number of a pseudo file of a unit's own with this text, which is made unless its path was met.
+fn make_own(alloc: Global, cache: &mut Cache, number: u32, text: Vec<u8>) -> Result<u32, PreFault>
     ensures answer { found_at (defines_path number) cache.old.table ≡ None → GivesOpening result (opening the_limits file_text (first_place (defines_path number)) (defines_path number)
-        (numbered (defines_path number) (Made (defines_of unit.now)) cache.old.table)) cache.new.table }
+        (numbered (defines_path number) (Made text.items) cache.old.table)) cache.new.table }
     ensures there { IfOk result (λ n. IsSome (source_at cache.new.table n)) }
     ensures keeps { Keeps cache.old cache.new }
     ensures no_read { IfErr result IsNoReadFault }
 {
     let path = defines_path(alloc, number)?;
     if cache.has(&path) {
-        let place = first_place(alloc, &path)?;
-        return open_file(alloc, cache, &path, &place);
+        return open_met(alloc, cache, &path);
     }
-    let text = defines_text(alloc, unit)?;
     cache.make(alloc, &path, text)
+}
+
+// The number of the pseudo file of the unit: that of the first unit whose text it has, or one of its own.
+fn make_defines(alloc: Global, cache: &mut Cache, unit: &Unit, number: u32) -> Result<u32, PreFault>
+    ensures answer { found_at (defines_path number) cache.old.table ≡ None → GivesOpening result (opening the_limits file_text (first_place (pseudo_path number unit.now cache.old.table))
+        (pseudo_path number unit.now cache.old.table) (with_defines number unit.now cache.old.table)) cache.new.table }
+    ensures there { IfOk result (λ n. IsSome (source_at cache.new.table n)) }
+    ensures keeps { Keeps cache.old cache.new }
+    ensures no_read { IfErr result IsNoReadFault }
+{
+    let text = defines_text(alloc, unit)?;
+    match cache.made(&text) {
+        Some(found) => match Vec::from_slice(alloc, found) {
+            Ok(path) => open_met(alloc, cache, &path),
+            Err(_) => Err(PreFault::Memory),
+        },
+        None => make_own(alloc, cache, number, text),
+    }
 }
 
 // The items of the pseudo file of the unit.
@@ -56,8 +86,8 @@ fn walk_defines<F: Files>(
 ) -> Result<(), PreFault>
     requires ready { IsReady p.old (unit_most cache.old.toks) }
     ensures answer { found_at (defines_path number) cache.old.table ≡ None → (source : Source) → AreFound source cache.new.table →
-        Gives (λ _. (state_in cache.new.table p.new, p.new.text)) fault_of result (put_after p.old.text (outer_file (unit_context source unit.now cache.old.toks) (defines_path number)
-        (state_in (numbered (defines_path number) (Made (defines_of unit.now)) cache.old.table) p.old))) }
+        Gives (λ _. (state_in cache.new.table p.new, p.new.text)) fault_of result (put_after p.old.text (outer_file (unit_context source unit.now cache.old.toks) (pseudo_path number unit.now cache.old.table)
+        (state_in (with_defines number unit.now cache.old.table) p.old))) }
     ensures goes_on { GoesOn p.old p.new result }
     ensures reads { ReadsOn (F.told files.old).held cache.old cache.new }
     ensures faults { ReadsOnly (F.told files.old) (F.told files.new) (reads_of result) }
@@ -112,9 +142,10 @@ fn walk_main<F: Files>(
     }
 }
 
-/// Preprocesses unit `number`: first the pseudo file of its settings, which gets a number of its own and is
-/// kept, and then the file of the unit; included files are walked where their lines stand. The text of the
-/// unit, or its first fault.
+/// Preprocesses unit `number`: first the pseudo file of its settings, and then the file of the unit; included files are
+/// walked where their lines stand. The text of the unit, or its first fault. The pseudo file is that of the first unit
+/// with the same text, whose standard, settings and files included before its own are equal; where none has it, the unit
+/// gets one of its own, which has a number and is kept.
 ///
 /// A file is read when its path is asked for the first time, and opened and kept when it is first included:
 /// `cache` keeps both for the units that follow. A place is a path, a line and a column, both from 1: that
@@ -143,7 +174,7 @@ pub fn preprocess<F: Files>(
         Gives (with_text cache.new) fault_of result (preprocessed source number unit.now cache.old) }
     ensures faults { ReadsOnly (F.told files.old) (F.told files.new) (reads_of result) }
 {
-    let mut p = match Progress::begin(alloc, cache.most()) {
+    let mut p = match Progress::begin(alloc, unit.standard().is_gnu(), cache.most()) {
         Ok(p) => p,
         Err(_) => return Err(PreFault::Memory),
     };

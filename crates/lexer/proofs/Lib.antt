@@ -23,3 +23,4 @@ pub mod ByteLemmas
 pub mod CharacterLemmas
 pub mod InverseLemmas
 pub mod NameLemmas
+mod SignLemmas

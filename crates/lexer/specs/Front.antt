@@ -1,5 +1,5 @@
 -- The first token of a text, read in one pass.
-use Rattle.std.specs.Prelude.{◌≡◌, ◌≤◌, ℕ, zero, suc, ◌+◌, ◌&&◌, ◌==◌, nat_le, Bool, true, false, if◌then◌else◌, List, [], ◌∷◌, length, take, Option, Some, None, unwrap_or}
+use Rattle.std.specs.Prelude.{◌≡◌, ◌≤◌, ℕ, zero, suc, ◌+◌, ◌&&◌, ◌||◌, ◌==◌, nat_le, Bool, true, false, if◌then◌else◌, List, [], ◌∷◌, length, take, Option, Some, None, unwrap_or}
 use Rattle.std.specs.List.{prefix_len, list_any}
 use Rattle.std.specs.Option.{option_map}
 use Rattle.cs_base.specs.declared.tokens.Kind.{Kind}
@@ -66,6 +66,11 @@ begins_with (w ∷ ws) (c ∷ cs) = c == w && begins_with ws cs
 -- the text begins with one of these words
 abbrev pub begins_with_one : List (List ℕ) → List ℕ → Bool
 begins_with_one words text = list_any (λ w. begins_with w text) words
+
+-- the punctuators of one character with which no other one begins (6.4.6): `(`, `)`, `[`, `]`, `{`, `}`, `,`, `;`, `~` and `?`
+abbrev pub is_lone_sign : ℕ → Bool
+is_lone_sign c =
+    c == 40 || c == 41 || c == 91 || c == 93 || c == 123 || c == 125 || c == 44 || c == 59 || c == 126 || c == 63
 
 -- how many characters the longest punctuator in front has, and 0 where there is none
 unfoldable pub punctuator_length : List ℕ → ℕ

@@ -5,7 +5,7 @@ ghost use Rattle.lexer.specs.Spelling.{is_identifier_text, may_follow as follows
 ghost use Rattle.lexer.specs.Characters.{is_word as word, is_quote as quote_is, begins as begins_so};
 ghost use Rattle.lexer.specs.Lone.{IsLone};
 ghost use Rattle.lexer.specs.Walk.{spelled, IsFirst};
-ghost use Rattle.lexer.specs.Front.{front_of, plain_front as plain_front_of, count_following as following, closing as closing_of, header_closing as header_closing_of, punctuator_length as punctuator_length_of, punctuator_front as punctuator_front_of, begins_with as begins_with_word, begins_with_one as begins_with_one_of, quoted as quoted_of, quoted_kind as kind_of_quoted, quoted_front as quoted_front_of, wide_front as wide_front_of, header_length as header_length_of, IsFront};
+ghost use Rattle.lexer.specs.Front.{front_of, plain_front as plain_front_of, count_following as following, closing as closing_of, header_closing as header_closing_of, punctuator_length as punctuator_length_of, punctuator_front as punctuator_front_of, begins_with as begins_with_word, begins_with_one as begins_with_one_of, quoted as quoted_of, quoted_kind as kind_of_quoted, quoted_front as quoted_front_of, is_lone_sign as lone_sign, wide_front as wide_front_of, header_length as header_length_of, IsFront};
 
 use crate::characters::{is_exponent_letter, is_nondigit, is_sign, is_word};
 use crate::logical::{begins_with, next};
@@ -193,6 +193,32 @@ fn header_length(first: u8, after: &[u8]) -> Option<usize>
     header_closing(close, after)
 }
 
+// The character is a punctuator with which no other one begins.
+fn is_lone_sign(c: u8) -> bool
+    ensures { result ≡ lone_sign c }
+{
+    c == b'('
+        || c == b')'
+        || c == b'['
+        || c == b']'
+        || c == b'{'
+        || c == b'}'
+        || c == b','
+        || c == b';'
+        || c == b'~'
+        || c == b'?'
+}
+
+// The text begins with such a punctuator. Most punctuators of a file are such, and need no search among all.
+fn begins_with_lone_sign(text: &[u8]) -> bool
+    ensures { result ≡ true → punctuator_length_of (spelled text.now) ≡ 1 }
+{
+    match next(text) {
+        Some((c, _)) => is_lone_sign(c),
+        None => false,
+    }
+}
+
 fn begins_with_one(words: &[&[u8]], text: &[u8]) -> bool
     ensures { result ≡ list_any (λ word. begins_with_word word.now (spelled text.now)) words.now }
 {
@@ -241,7 +267,9 @@ fn begins_with_four_signs(text: &[u8]) -> bool
 fn punctuator_length(text: &[u8]) -> usize
     ensures { result ≡ punctuator_length_of (spelled text.now) }
 {
-    if begins_with_four_signs(text) {
+    if begins_with_lone_sign(text) {
+        1
+    } else if begins_with_four_signs(text) {
         4
     } else if begins_with_three_signs(text) {
         3

@@ -1,4 +1,4 @@
--- The origins of the digits of a line.
+-- The origins of the digits of a number.
 use Rattle.std.proofs.Common.{◌≡◌, ℕ, zero, suc, ◌+◌, ◌-◌, ◌*◌, ◌≤◌, Bool, true, false, List, [], ◌∷◌, ◌++◌, length, replicate, Option, Some, None, IsTrue, refl, sym, ◌∙◌, ap, add-one, arith}
 use Rattle.std.specs.Fmt.{decimal}
 use Rattle.std.specs.List.{list_all}
@@ -8,7 +8,7 @@ use Rattle.cs_base.specs.declared.positions.Pos.{Pos}
 use Rattle.cs_base.specs.Padding.{padded}
 use Rattle.cs_base.specs.Token.{Token, token}
 use Rattle.cs_base.specs.declared.tokens.Kind.TheVariants.{Number, Str}
-use Rattle.macro_body.specs.Substitution.{digit_origins, line_number, path_text, path_string}
+use Rattle.macro_body.specs.Substitution.{digit_origins, number_token, path_text, path_string}
 
 abbrev origin : ℕ → Option Pos
 origin at = Some (record { file = 0; at = at })
@@ -38,28 +38,27 @@ padded-digit_origins at n =
     let none : n - length (digit_origins at n) ≡ 0 = omega (arith, length-digit_origins at n) in
     ap (λ (k : ℕ). digit_origins at n ++ replicate k None) none ∙ append-nil (digit_origins at n)
 
--- The number of a line, of what the program has.
+-- The number in place of a name, of what the program has.
 
-pub line_number-no_longer : (at : ℕ) (text : List ℕ) (os : List (Option Pos)) → os ≡ digit_origins at (length text) → length os ≤ length text
-line_number-no_longer at text os is = omega (arith, ap length is, length-digit_origins at (length text))
+pub number-no_longer : (at : ℕ) (text : List ℕ) (os : List (Option Pos)) → os ≡ digit_origins at (length text) → length os ≤ length text
+number-no_longer at text os is = omega (arith, ap length is, length-digit_origins at (length text))
 
-padded-line_number : (at : ℕ) (text : List ℕ) (os : List (Option Pos)) → os ≡ digit_origins at (length text) → padded (length text) os ≡ digit_origins at (length text)
-padded-line_number at text os is = ap (padded (length text)) is ∙ padded-digit_origins at (length text)
+padded-number : (at : ℕ) (text : List ℕ) (os : List (Option Pos)) → os ≡ digit_origins at (length text) → padded (length text) os ≡ digit_origins at (length text)
+padded-number at text os is = ap (padded (length text)) is ∙ padded-digit_origins at (length text)
 
-pub line_number-traced : (at : ℕ) (text : List ℕ) (os : List (Option Pos)) → os ≡ digit_origins at (length text) → IsTrue (list_all is_some (padded (length text) os))
-line_number-traced at text os is = ap (list_all is_some) (padded-line_number at text os is) ∙ list_all-digit_origins at (length text)
+pub number-traced : (at : ℕ) (text : List ℕ) (os : List (Option Pos)) → os ≡ digit_origins at (length text) → IsTrue (list_all is_some (padded (length text) os))
+number-traced at text os is = ap (list_all is_some) (padded-number at text os is) ∙ list_all-digit_origins at (length text)
 
-pub line_number-made : (name t : Token) (line line2 line3 : ℕ) (text : List ℕ) (os : List (Option Pos)) (gap : Bool) (at : Pos)
-    → line ≡ name.line → line2 ≡ name.line → line3 ≡ name.line → gap ≡ name.gap → at ≡ name.at → text ≡ decimal line → os ≡ digit_origins (8 * line2) (length text)
-    → t ≡ token Number text (padded (length text) os) gap at line3 false → t ≡ line_number name
-line_number-made name t line line2 line3 text os gap at line_is line2_is line3_is gap_is at_is text_is os_is is =
-    let spelled : text ≡ decimal name.line = text_is ∙ ap decimal line_is in
+pub number-made : (name t : Token) (n line : ℕ) (text : List ℕ) (os : List (Option Pos)) (gap : Bool) (at : Pos)
+    → line ≡ name.line → gap ≡ name.gap → at ≡ name.at → text ≡ decimal n → os ≡ digit_origins (8 * n) (length text)
+    → t ≡ token Number text (padded (length text) os) gap at line false → t ≡ number_token name n
+number-made name t n line text os gap at line_is gap_is at_is spelled os_is is =
     is
-    ∙ ap (λ (o : List (Option Pos)). token Number text o gap at line3 false) (padded-line_number (8 * line2) text os os_is ∙ ap (λ (n : ℕ). digit_origins (8 * n) (length text)) line2_is)
-    ∙ ap (λ (s : List ℕ). token Number s (digit_origins (8 * name.line) (length s)) gap at line3 false) spelled
-    ∙ ap (λ (b : Bool). token Number (decimal name.line) (digit_origins (8 * name.line) (length (decimal name.line))) b at line3 false) gap_is
-    ∙ ap (λ (p : Pos). token Number (decimal name.line) (digit_origins (8 * name.line) (length (decimal name.line))) name.gap p line3 false) at_is
-    ∙ ap (λ (n : ℕ). token Number (decimal name.line) (digit_origins (8 * name.line) (length (decimal name.line))) name.gap name.at n false) line3_is
+    ∙ ap (λ (o : List (Option Pos)). token Number text o gap at line false) (padded-number (8 * n) text os os_is)
+    ∙ ap (λ (s : List ℕ). token Number s (digit_origins (8 * n) (length s)) gap at line false) spelled
+    ∙ ap (λ (b : Bool). token Number (decimal n) (digit_origins (8 * n) (length (decimal n))) b at line false) gap_is
+    ∙ ap (λ (p : Pos). token Number (decimal n) (digit_origins (8 * n) (length (decimal n))) name.gap p line false) at_is
+    ∙ ap (λ (l : ℕ). token Number (decimal n) (digit_origins (8 * n) (length (decimal n))) name.gap name.at l false) line_is
 
 -- The string of a path, of what the program has.
 

@@ -1,6 +1,6 @@
 -- Definitions of macros: those that `define` lines give (ISO/IEC 9899:1999, 6.10.3 paragraphs 9 and 10),
--- and the two that each translation unit begins with (6.10.8).
-use Rattle.std.specs.Prelude.{ℕ, Bool, false, if◌then◌else◌, List, [], ◌∷◌, Option, None, codes, length}
+-- and the first ones, with which a translation unit begins (6.10.8).
+use Rattle.std.specs.Prelude.{ℕ, Bool, true, false, if◌then◌else◌, List, [], ◌∷◌, Option, None, codes, length}
 use Rattle.std.specs.Option.{option_map}
 use Rattle.cs_base.specs.declared.tokens.Kind.TheVariants.{Other}
 use Rattle.cs_base.specs.Padding.{padded}
@@ -61,6 +61,15 @@ line_macro = first_definition form.Line (codes "__LINE__")
 abbrev pub file_macro : Definition
 file_macro = first_definition form.File (codes "__FILE__")
 
--- the macros at the beginning of a translation unit
-abbrev pub first_macros : Table
-first_macros = with_macro file_macro (with_macro line_macro no_macro)
+-- `__COUNTER__`, which GNU C has
+abbrev pub counter_macro : Definition
+counter_macro = first_definition form.Counter (codes "__COUNTER__")
+
+-- those that each translation unit begins with
+abbrev pub standard_macros : Table
+standard_macros = with_macro file_macro (with_macro line_macro no_macro)
+
+-- the macros at the beginning of a translation unit, of GNU C or not
+abbrev pub first_macros : Bool → Table
+first_macros false = standard_macros
+first_macros true = with_macro counter_macro standard_macros

@@ -2,6 +2,7 @@
 use Rattle.std.specs.Prelude.{ℕ, List, [], ◌∷◌, ◌++◌, Result, Ok, Err}
 use Rattle.cs_base.specs.declared.positions.Pos.{Pos}
 use Rattle.cs_base.specs.Token.{Token}
+use Rattle.macro_body.specs.declared.notes.Work.{Work}
 use Rattle.macro_body.specs.Hides.{Hidden}
 
 -- The first fault of an expansion, at the position of a macro's name: a call has no `)`, or a wrong
@@ -17,20 +18,22 @@ pub data Fault : Type 0 where
 
 -- What happens, in order; what a name's replacement brings comes behind the name itself. A name is
 -- replaced: the name of its macro, and how many tokens were put out before. A name is linked with that
--- of its macro. A `#` makes a string of tokens. A `##` makes one token of two.
+-- of its macro. A `#` makes a string of tokens. A `##` makes one token of two. The next number stands for a name.
 pub data Note : Type 0 where
   Replaced : Token → Token → ℕ → Note
   Linked : Token → Token → Note
   Stringized : List Token → Token → Note
   Pasted : Token → Token → Token → Note
+  Counted : Token → Note
 
--- What is left of an expansion: its tokens, what happened, and the work that is left.
+-- What is left of an expansion: its tokens, what happened, and the work that is left, with the number for which
+-- the next `__COUNTER__` stands.
 pub record Expanded : Type 0 where
   pub toks : List Hidden
   pub notes : List Note
-  pub left : ℕ
+  pub left : Work
 
-abbrev pub expanded : List Hidden → List Note → ℕ → Expanded
+abbrev pub expanded : List Hidden → List Note → Work → Expanded
 expanded toks notes left = record { toks = toks; notes = notes; left = left }
 
 -- the same, with a token in front that stays
@@ -63,6 +66,12 @@ abbrev pub stringized_in : List Note → List Token
 stringized_in [] = []
 stringized_in (Stringized toks s ∷ notes) = toks ++ stringized_in notes
 stringized_in (_ ∷ notes) = stringized_in notes
+
+-- the numbers of the unit
+abbrev pub counted_in : List Note → List Token
+counted_in [] = []
+counted_in (Counted z ∷ notes) = z ∷ counted_in notes
+counted_in (_ ∷ notes) = counted_in notes
 
 -- the replacements: the name, the name of its macro, and how many tokens were put out before
 abbrev pub replaced_in : List Note → List (Token × Token × ℕ)

@@ -161,10 +161,13 @@ abbrev pub digit_origins : ℕ → ℕ → List (Option Pos)
 digit_origins at zero = []
 digit_origins at (suc n) = Some (record { file = 0; at = at }) ∷ digit_origins (at + 1) n
 
+-- a number in place of a name
+abbrev pub number_token : Token → ℕ → Token
+number_token name n = token Number (decimal n) (digit_origins (8 * n) (length (decimal n))) name.gap name.at name.line false
+
 -- the number that stands for `__LINE__` (6.10.8): the line of the name
 abbrev pub line_number : Token → Token
-line_number name =
-    token Number (decimal name.line) (digit_origins (8 * name.line) (length (decimal name.line))) name.gap name.at name.line false
+line_number name = number_token name name.line
 
 -- the string that stands for `__FILE__` (6.10.8): the path of the file, `"` and `\` escaped
 abbrev pub path_text : List ℕ → List ℕ

@@ -2,13 +2,15 @@
 use cs_base::{Tok, Toks};
 
 /// The form of a macro: object-like or function-like as its `define` line says (6.10.3 paragraphs 9
-/// and 10), or one of the two that stand for the line and the path of the file (6.10.8).
+/// and 10), or one of those that stand for the line and the path of the file (6.10.8) and for the next
+/// number of the unit, which GNU C has.
 #[derive(Clone, Copy, Debug, PartialEq, Eq)]
 pub enum Form {
     Object,
     Function,
     Line,
     File,
+    Counter,
 }
 
 /// A macro: its name, its named parameters, whether variable arguments follow them, whether the last of them

@@ -1,24 +1,33 @@
-// What stands for `__LINE__` and `__FILE__` (6.10.8).
+// What stands for `__LINE__` and `__FILE__` (6.10.8), and for `__COUNTER__` of GNU C.
 ghost use Rattle.std.specs.Prelude.{◌≡◌, ◌<◌, ◌≤◌, ◌+◌, ◌++◌, ◌^◌, [], IfOk};
 ghost use Rattle.std.specs.List.{flat_map};
 ghost use Rattle.cs_base.specs.declared.tokens.Kind.TheVariants.{Str};
 ghost use Rattle.cs_base.specs.Limits.{most_bytes};
 ghost use Rattle.paste_origin.specs.Strings.{escaped};
-ghost use Rattle.macro_body.specs.Substitution.{digit_origins, line_number, path_text, path_string};
+ghost use Rattle.macro_body.specs.Substitution.{digit_origins, number_token, line_number, path_text, path_string};
 
 use cs_base::{Kind, Memory, Pos, Tok};
 use itoa::Buffer;
 use std::alloc::Global;
 
-/// The number that stands for `__LINE__` (6.10.8): the line of the name, counted from 1. Its characters come
-/// from the digits of the line in the file with number 0. `Memory` where memory ran out.
+/// The number that stands for `__LINE__` (6.10.8): the line of the name, counted from 1. `Memory` where memory
+/// ran out.
 pub fn line_number(alloc: Global, name: &Tok) -> Result<Tok, Memory>
     requires low { name.now.line ≤ most_bytes }
     ensures { IfOk result (λ t. t ≡ line_number name.now) }
 {
+    number_token(alloc, name, name.line())
+}
+
+/// A number in place of a name. Its characters come from the digits of that number in the file with number 0.
+/// `Memory` where memory ran out.
+pub fn number_token(alloc: Global, name: &Tok, number: u32) -> Result<Tok, Memory>
+    requires low { number ≤ most_bytes }
+    ensures { IfOk result (λ t. t ≡ number_token name.now number) }
+{
     let mut buffer = Buffer::new();
-    let text = buffer.format(name.line()).as_bytes();
-    let origins = digit_origins(alloc, 8 * name.line(), text.len() as u32)?;
+    let text = buffer.format(number).as_bytes();
+    let origins = digit_origins(alloc, 8 * number, text.len() as u32)?;
     Tok::new(
         alloc,
         Kind::Number,

@@ -3,6 +3,7 @@ use Rattle.std.proofs.Common.{◌≡◌, ℕ, Bool, true, false, cond, List, [],
 use Rattle.std.specs.Option.{IfSome}
 use Rattle.std.proofs.lemmas.List.{append-nil}
 use Rattle.cs_base.specs.Token.{Token}
+use Rattle.macro_body.specs.declared.notes.Work.{Work}
 use Rattle.macro_body.specs.declared.definitions.Definition.{Definition}
 use Rattle.macro_body.specs.Below.line_shape.Signs.{is_open}
 use Rattle.macro_body.specs.Hides.{Hidden, hide_more}
@@ -19,7 +20,7 @@ use Rattle.macro_expand.proofs.WholeLemmas.{whole_is_step}
 
 -- what an expansion comes to
 abbrev pub Ending : Type 0
-Ending = Result (List Hidden × ℕ × Kept) Fault
+Ending = Result (List Hidden × Work × Kept) Fault
 
 pub ok_err : {A : Type 0} {P : Type 0} (a : A) (f : Fault) → ◌≡◌ {A = Result A Fault} (Ok a) (Err f) → P
 ok_err a f e = err_ok f a (sym e)
@@ -60,7 +61,7 @@ pub finished_fault : (k : Kept) (out : List Hidden) (r : Result Expanded Fault) 
 finished_fault k out (Ok e) f h = ok_err _ f h
 finished_fault k out (Err g) f h = h
 
-pub finished_end : (k : Kept) (out : List Hidden) (work : ℕ) → finished k out (Ok (expanded [] [] work)) ≡ Ok (out, work, k)
+pub finished_end : (k : Kept) (out : List Hidden) (work : Work) → finished k out (Ok (expanded [] [] work)) ≡ Ok (out, work, k)
 finished_end k out work =
     let F : List Hidden → Kept → Ending = λ xs s. Ok (xs, work, s) in
     ap (λ (xs : List Hidden). F xs (kept_with k [])) (append-nil out) ∙ ap (F out) (kept_with-nil k)
@@ -68,13 +69,13 @@ finished_end k out work =
 -- ---- what a replacement brings
 
 -- put in front of what follows, it comes to what the replacement comes to
-finished-brought : (k k2 : Kept) (first : List Note) (r : Result Expanded Fault) (next : List Hidden → ℕ → Result Expanded Fault) (toks : List Hidden) (left : ℕ)
+finished-brought : (k k2 : Kept) (first : List Note) (r : Result Expanded Fault) (next : List Hidden → Work → Result Expanded Fault) (toks : List Hidden) (left : Work)
     → finished k [] (onward r (λ e. Ok (noted first e))) ≡ Ok (toks, left, k2)
     → finished k [] (onward r (λ e. onward (next e.toks e.left) (λ rest. Ok (noted (first ++ e.notes) rest)))) ≡ finished k2 [] (next toks left)
 finished-brought k k2 first (Err f) next toks left h = err_ok f _ h
 finished-brought k k2 first (Ok e) next toks left h =
     finished-noted k [] (first ++ e.notes) (next e.toks e.left)
-    ∙ ap (λ (v : List Hidden × ℕ × Kept). finished v.2 [] (next v.0 v.1)) (ok_same (e.toks, e.left, kept_with k (first ++ e.notes)) (toks, left, k2) h)
+    ∙ ap (λ (v : List Hidden × Work × Kept). finished v.2 [] (next v.0 v.1)) (ok_same (e.toks, e.left, kept_with k (first ++ e.notes)) (toks, left, k2) h)
 
 brought_fault : (k : Kept) (first : List Note) (r : Result Expanded Fault) (next : Expanded → Result Expanded Fault) (f : Fault)
     → finished k [] (onward r (λ e. Ok (noted first e))) ≡ Err f → finished k [] (onward r next) ≡ Err f
@@ -82,8 +83,8 @@ brought_fault k first (Ok e) next f h = ok_err _ f h
 brought_fault k first (Err g) next f h = h
 
 -- A replacement, put in front of what follows it.
-pub finished-replaced : (set : Setting) (depth before : ℕ) (name : Token) (m : Definition) (added : List (List ℕ)) (raw : List (List Hidden)) (ts : List Hidden) (work : ℕ)
-    → (k k2 : Kept) (toks ts2 : List Hidden) (left : ℕ)
+pub finished-replaced : (set : Setting) (depth before : ℕ) (name : Token) (m : Definition) (added : List (List ℕ)) (raw : List (List Hidden)) (ts : List Hidden) (work : Work)
+    → (k k2 : Kept) (toks ts2 : List Hidden) (left : Work)
     → finished k [] (brought set (whole set) depth before name m raw work) ≡ Ok (toks, left, k2) → ts2 ≡ map (hide_more added) toks ++ ts
     → finished k [] (replaced set (whole set) depth before name m added raw ts work) ≡ finished k2 [] (whole set depth before ts2 left)
 finished-replaced set depth before name m added raw ts work k k2 toks ts2 left brings is =
@@ -91,7 +92,7 @@ finished-replaced set depth before name m added raw ts work k k2 toks ts2 left b
     (λ xs n. whole set depth before (map (hide_more added) xs ++ ts) n) toks left brings
     ∙ ap (λ (xs : List Hidden). finished k2 [] (whole set depth before xs left)) (sym is)
 
-pub replaced_fault : (set : Setting) (depth before : ℕ) (name : Token) (m : Definition) (added : List (List ℕ)) (raw : List (List Hidden)) (ts : List Hidden) (work : ℕ)
+pub replaced_fault : (set : Setting) (depth before : ℕ) (name : Token) (m : Definition) (added : List (List ℕ)) (raw : List (List Hidden)) (ts : List Hidden) (work : Work)
     → (k : Kept) (f : Fault) → finished k [] (brought set (whole set) depth before name m raw work) ≡ Err f
     → finished k [] (replaced set (whole set) depth before name m added raw ts work) ≡ Err f
 replaced_fault set depth before name m added raw ts work k f h =
@@ -100,45 +101,45 @@ replaced_fault set depth before name m added raw ts work k f h =
 
 -- ---- the whole expansion by its first token
 
-pub whole-nothing : (set : Setting) (depth before work : ℕ) → whole set depth before [] work ≡ Ok (expanded [] [] work)
+pub whole-nothing : (set : Setting) (depth before : ℕ) (work : Work) → whole set depth before [] work ≡ Ok (expanded [] [] work)
 whole-nothing set depth before work = whole_is_step set depth before [] work
 
 -- the first token is acted on by the macro that replaces it
-whole-first : (set : Setting) (depth before : ℕ) (t : Hidden) (ts : List Hidden) (work : ℕ) (m : Option Definition) → macro_of set.table t ≡ m
+whole-first : (set : Setting) (depth before : ℕ) (t : Hidden) (ts : List Hidden) (work : Work) (m : Option Definition) → macro_of set.table t ≡ m
     → whole set depth before (t ∷ ts) work ≡ act set (whole set) depth before t ts work m
 whole-first set depth before t ts work m is =
     whole_is_step set depth before (t ∷ ts) work ∙ ap (λ (o : Option Definition). act set (whole set) depth before t ts work o) is
 
-pub whole-stays : (set : Setting) (depth before : ℕ) (t : Hidden) (ts : List Hidden) (work : ℕ) → macro_of set.table t ≡ None
+pub whole-stays : (set : Setting) (depth before : ℕ) (t : Hidden) (ts : List Hidden) (work : Work) → macro_of set.table t ≡ None
     → whole set depth before (t ∷ ts) work ≡ stays (whole set) depth before t ts work
 whole-stays set depth before t ts work is = whole-first set depth before t ts work None is
 
-pub whole-object : (set : Setting) (depth before : ℕ) (t : Hidden) (ts : List Hidden) (work : ℕ) (m : Definition) → macro_of set.table t ≡ Some m → is_function m.form ≡ false
+pub whole-object : (set : Setting) (depth before : ℕ) (t : Hidden) (ts : List Hidden) (work : Work) (m : Definition) → macro_of set.table t ≡ Some m → is_function m.form ≡ false
     → whole set depth before (t ∷ ts) work ≡ replaced set (whole set) depth before t.tok m (t.hides ++ t.tok.text ∷ []) [] ts work
 whole-object set depth before t ts work m is object =
     whole-first set depth before t ts work (Some m) is
     ∙ ap (λ (b : Bool). cond b (behind_name set (whole set) depth before t m ts work) (replaced set (whole set) depth before t.tok m (t.hides ++ t.tok.text ∷ []) [] ts work)) object
 
 -- a function-like macro's name
-whole-function : (set : Setting) (depth before : ℕ) (t : Hidden) (ts : List Hidden) (work : ℕ) (m : Definition) → macro_of set.table t ≡ Some m → is_function m.form ≡ true
+whole-function : (set : Setting) (depth before : ℕ) (t : Hidden) (ts : List Hidden) (work : Work) (m : Definition) → macro_of set.table t ≡ Some m → is_function m.form ≡ true
     → whole set depth before (t ∷ ts) work ≡ behind_name set (whole set) depth before t m ts work
 whole-function set depth before t ts work m is function =
     whole-first set depth before t ts work (Some m) is
     ∙ ap (λ (b : Bool). cond b (behind_name set (whole set) depth before t m ts work) (replaced set (whole set) depth before t.tok m (t.hides ++ t.tok.text ∷ []) [] ts work)) function
 
-behind_name-stays : (set : Setting) (next : Next) (depth before : ℕ) (t : Hidden) (m : Definition) (ts : List Hidden) (work : ℕ) → begins_open ts ≡ false
+behind_name-stays : (set : Setting) (next : Next) (depth before : ℕ) (t : Hidden) (m : Definition) (ts : List Hidden) (work : Work) → begins_open ts ≡ false
     → behind_name set next depth before t m ts work ≡ stays next depth before t ts work
 behind_name-stays set next depth before t m [] work closed = refl
 behind_name-stays set next depth before t m (p ∷ ts) work closed =
     ap (λ (b : Bool). cond b (called set next depth before t m work (call_from ts (commas_of m) 0)) (stays next depth before t (p ∷ ts) work)) closed
 
-pub whole-alone : (set : Setting) (depth before : ℕ) (t : Hidden) (ts : List Hidden) (work : ℕ) (m : Definition) → macro_of set.table t ≡ Some m → is_function m.form ≡ true
+pub whole-alone : (set : Setting) (depth before : ℕ) (t : Hidden) (ts : List Hidden) (work : Work) (m : Definition) → macro_of set.table t ≡ Some m → is_function m.form ≡ true
     → begins_open ts ≡ false → whole set depth before (t ∷ ts) work ≡ stays (whole set) depth before t ts work
 whole-alone set depth before t ts work m is function closed =
     whole-function set depth before t ts work m is function ∙ behind_name-stays set (whole set) depth before t m ts work closed
 
 -- a call that is read, and then replaced
-called-read : (set : Setting) (next : Next) (depth before : ℕ) (t : Hidden) (m : Definition) (work : ℕ) (call : Option Call)
+called-read : (set : Setting) (next : Next) (depth before : ℕ) (t : Hidden) (m : Definition) (work : Work) (call : Option Call)
     → called set next depth before t m work call ≡ onward (read_from t m call) (λ r. replaced set next depth before t.tok m r.1 r.0 r.2 work)
 called-read set next depth before t m work None = refl
 called-read set next depth before t m work (Some call) = called_with-read (arguments_of m call.arguments)
@@ -148,7 +149,7 @@ called-read set next depth before t m work (Some call) = called_with-read (argum
     called_with-read None = refl
     called_with-read (Some raw) = refl
 
-pub whole-call : (set : Setting) (depth before : ℕ) (t p : Hidden) (ts : List Hidden) (work : ℕ) (m : Definition) → macro_of set.table t ≡ Some m → is_function m.form ≡ true
+pub whole-call : (set : Setting) (depth before : ℕ) (t p : Hidden) (ts : List Hidden) (work : Work) (m : Definition) → macro_of set.table t ≡ Some m → is_function m.form ≡ true
     → is_open p.tok ≡ true
     → whole set depth before (t ∷ p ∷ ts) work ≡ onward (read_from t m (call_from ts (commas_of m) 0)) (λ r. replaced set (whole set) depth before t.tok m r.1 r.0 r.2 work)
 whole-call set depth before t p ts work m is function opens =

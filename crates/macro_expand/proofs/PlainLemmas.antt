@@ -4,6 +4,7 @@ use Rattle.std.proofs.lemmas.Bool.{and_parts, false≢true}
 use Rattle.std.proofs.lemmas.List.{append-nil, map-append, length-map, reverse-append}
 use Rattle.cs_base.specs.Answer.{Gives}
 use Rattle.cs_base.specs.Token.{Token}
+use Rattle.macro_body.specs.declared.notes.Work.{Work}
 use Rattle.macro_body.specs.declared.fault.ExpandFault.{ExpandFault}
 use Rattle.macro_body.specs.Faults.{fault_of}
 use Rattle.macro_body.specs.declared.definitions.Definition.{Definition}
@@ -24,7 +25,7 @@ use Rattle.macro_expand.proofs.TurnLemmas.{stays-goes}
 
 -- what an expansion comes to without hide sets
 abbrev pub PlainEnding : Type 0
-PlainEnding = Result (List Token × ℕ × Kept) Fault
+PlainEnding = Result (List Token × Work × Kept) Fault
 
 pub plain-expanded : (k : Kept) (r : Result Expanded Fault) → plain [] (finished k [] r) ≡ expanded_kept k r
 plain-expanded k (Ok e) = refl
@@ -36,7 +37,7 @@ plain-finished k out ts (Ok e) =
     ap F (append_assoc out (toks_of ts) (toks_of e.toks) ∙ ap (λ (xs : List Token). out ++ xs) (sym (map-append (λ (h : Hidden). h.tok) ts e.toks)))
 plain-finished k out ts (Err f) = refl
 
-pub plain-turn : (set : Setting) (depth before before2 : ℕ) (first : Hidden) (stayed : Option Hidden) (ts rest rest2 : List Hidden) (out out2 : List Token) (work work2 : ℕ) (k k2 : Kept) (all : PlainEnding)
+pub plain-turn : (set : Setting) (depth before before2 : ℕ) (first : Hidden) (stayed : Option Hidden) (ts rest rest2 : List Hidden) (out out2 : List Token) (work work2 : Work) (k k2 : Kept) (all : PlainEnding)
     → ts ≡ first ∷ rest
     → finished k [] (whole set depth before (first ∷ rest) work) ≡ finished k2 (option_to_list stayed) (whole set depth (before_behind stayed depth before) rest2 work2)
     → before2 ≡ before_behind stayed depth before → out2 ≡ out ++ toks_of (option_to_list stayed) → plain out (finished k [] (whole set depth before ts work)) ≡ all
@@ -58,7 +59,7 @@ plain-none table t hides plain = none (is_name t) (hides_name hides t.text) (tab
     none true false (Some m) plain = absurd (false≢true (sym plain))
 
 -- a token that no macro replaces is put out
-pub plain-stays : (set : Setting) (depth before before2 : ℕ) (t : Token) (hides : List (List ℕ)) (ts rest : List Hidden) (out out2 : List Token) (work : ℕ) (k : Kept) (all : PlainEnding)
+pub plain-stays : (set : Setting) (depth before before2 : ℕ) (t : Token) (hides : List (List ℕ)) (ts rest : List Hidden) (out out2 : List Token) (work : Work) (k : Kept) (all : PlainEnding)
     → depth ≡ 0 → ts ≡ hidden t hides ∷ rest → macro_of set.table (hidden t hides) ≡ None → before2 ≡ before + 1 → out2 ≡ out ++ t ∷ []
     → plain out (finished k [] (whole set depth before ts work)) ≡ all → plain out2 (finished k [] (whole set depth before2 rest work)) ≡ all
 plain-stays set depth before before2 t hides ts rest out out2 work k all outermost split none counted pushed so_far =
@@ -90,13 +91,13 @@ popped_plain table (Some t) names toks toks2 low ts popped is =
     ap (λ (xs : List Hidden). map (hide_more names) (reverse xs)) popped.1 ∙ ap (map (hide_more names)) (reverse-append toks2 (hidden t popped.0 ∷ [])) in
     (hides, sym is ∙ ap (λ (xs : List Hidden). xs ++ low) split, plain-none table t hides popped.2)
 
-pub plain-fault : (set : Setting) (depth before : ℕ) (first : Hidden) (ts rest : List Hidden) (out : List Token) (work : ℕ) (k : Kept) (all : PlainEnding)
+pub plain-fault : (set : Setting) (depth before : ℕ) (first : Hidden) (ts rest : List Hidden) (out : List Token) (work : Work) (k : Kept) (all : PlainEnding)
     → ts ≡ first ∷ rest → plain out (finished k [] (whole set depth before ts work)) ≡ all
     → (f : Fault) → finished k [] (whole set depth before (first ∷ rest) work) ≡ Err f → all ≡ Err f
 plain-fault set depth before first ts rest out work k all split so_far f h =
     sym so_far ∙ ap (λ (xs : List Hidden). plain out (finished k [] (whole set depth before xs work))) split ∙ ap (plain out) h
 
-pub plain-end : (set : Setting) (depth before : ℕ) (o : Option Hidden) (ts new : List Hidden) (out : List Token) (work : ℕ) (k : Kept) (all : PlainEnding) → o ≡ None → IsTaken o ts new
+pub plain-end : (set : Setting) (depth before : ℕ) (o : Option Hidden) (ts new : List Hidden) (out : List Token) (work : Work) (k : Kept) (all : PlainEnding) → o ≡ None → IsTaken o ts new
     → plain out (finished k [] (whole set depth before ts work)) ≡ all → all ≡ Ok (out, work, k)
 plain-end set depth before o ts new out work k all is taken so_far =
     let F : List Token → Kept → PlainEnding = λ xs s. Ok (xs, work, s) in
@@ -121,12 +122,12 @@ plain-few stayed work work2 n first ts rest rest2 out out2 pushed split shorter 
 
 -- ---- the public call
 
-expansion-whole : (table : Table) (path : List ℕ) (run : List Token) (rest : List Hidden) (work : ℕ) → rest ≡ unhidden run
+expansion-whole : (table : Table) (path : List ℕ) (run : List Token) (rest : List Hidden) (work : Work) → rest ≡ unhidden run
     → whole (record { table = table; path = path }) 0 0 rest work ≡ expansion table path run work
 unfolding expansion
 expansion-whole table path run rest work is = ap (λ (ts : List Hidden). whole (record { table = table; path = path }) 0 0 ts work) is
 
-pub run-goes : {X : Type 0} (view : X → List Token × ℕ × Kept) (result : Result X ExpandFault) (table : Table) (path : List ℕ) (run : List Token) (rest : List Hidden) (work : ℕ) (k : Kept)
+pub run-goes : {X : Type 0} (view : X → List Token × Work × Kept) (result : Result X ExpandFault) (table : Table) (path : List ℕ) (run : List Token) (rest : List Hidden) (work : Work) (k : Kept)
     → rest ≡ unhidden run → Gives view fault_of result (expanded_kept k (whole (record { table = table; path = path }) 0 0 rest work))
     → Gives view fault_of result (expanded_kept k (expansion table path run work))
 run-goes view result table path run rest work k is h =

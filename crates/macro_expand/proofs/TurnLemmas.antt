@@ -2,6 +2,7 @@
 use Rattle.std.proofs.Common.{◌≡◌, ℕ, true, false, List, [], ◌∷◌, ◌++◌, map, Option, Some, None, option_to_list, Result, Ok, Err, sym, ap, ◌∙◌}
 use Rattle.std.proofs.lemmas.Bool.{false≢true}
 use Rattle.cs_base.specs.Token.{Token}
+use Rattle.macro_body.specs.declared.notes.Work.{Work}
 use Rattle.macro_body.specs.declared.definitions.Definition.{Definition}
 use Rattle.macro_body.specs.declared.fault.ExpandFault.{ExpandFault}
 use Rattle.macro_body.specs.Below.line_shape.Signs.{is_open}
@@ -26,13 +27,13 @@ refused_more e all all2 more h = fault_more (fault_of e) (λ f. all ≡ Err f) (
 
 -- ---- a token that stays
 
-pub stays-goes : (set : Setting) (depth before : ℕ) (t : Hidden) (ts : List Hidden) (work : ℕ) (k : Kept) → macro_of set.table t ≡ None
+pub stays-goes : (set : Setting) (depth before : ℕ) (t : Hidden) (ts : List Hidden) (work : Work) (k : Kept) → macro_of set.table t ≡ None
     → finished k [] (whole set depth before (t ∷ ts) work) ≡ finished k (t ∷ []) (whole set depth (one_more depth before) ts work)
 stays-goes set depth before t ts work k is =
     ap (λ (r : Result Expanded Fault). finished k [] r) (whole-stays set depth before t ts work is)
     ∙ finished-stays k t (whole set depth (one_more depth before) ts work)
 
-pub alone-goes : (set : Setting) (depth before : ℕ) (t : Hidden) (ts : List Hidden) (work : ℕ) (m : Definition) (k : Kept) → macro_of set.table t ≡ Some m → is_function m.form ≡ true
+pub alone-goes : (set : Setting) (depth before : ℕ) (t : Hidden) (ts : List Hidden) (work : Work) (m : Definition) (k : Kept) → macro_of set.table t ≡ Some m → is_function m.form ≡ true
     → begins_open ts ≡ false → finished k [] (whole set depth before (t ∷ ts) work) ≡ finished k (t ∷ []) (whole set depth (one_more depth before) ts work)
 alone-goes set depth before t ts work m k is function closed =
     ap (λ (r : Result Expanded Fault). finished k [] r) (whole-alone set depth before t ts work m is function closed)
@@ -40,7 +41,7 @@ alone-goes set depth before t ts work m k is function closed =
 
 -- ---- an object-like macro's name
 
-object-is : (set : Setting) (depth before : ℕ) (t : Hidden) (name : Token) (m : Definition) (ts : List Hidden) (added : List (List ℕ)) (work : ℕ)
+object-is : (set : Setting) (depth before : ℕ) (t : Hidden) (name : Token) (m : Definition) (ts : List Hidden) (added : List (List ℕ)) (work : Work)
     → macro_of set.table t ≡ Some m → is_function m.form ≡ false → name ≡ t.tok → added ≡ t.hides ++ t.tok.text ∷ []
     → whole set depth before (t ∷ ts) work ≡ replaced set (whole set) depth before name m added [] ts work
 object-is set depth before t name m ts added work is object named adds =
@@ -48,7 +49,7 @@ object-is set depth before t name m ts added work is object named adds =
     ∙ ap (λ (n : Token). replaced set (whole set) depth before n m (t.hides ++ t.tok.text ∷ []) [] ts work) (sym named)
     ∙ ap (λ (a : List (List ℕ)). replaced set (whole set) depth before name m a [] ts work) (sym adds)
 
-pub object-goes : (set : Setting) (depth before : ℕ) (t : Hidden) (name : Token) (m : Definition) (ts ts2 toks : List Hidden) (added : List (List ℕ)) (work left : ℕ) (k k2 : Kept)
+pub object-goes : (set : Setting) (depth before : ℕ) (t : Hidden) (name : Token) (m : Definition) (ts ts2 toks : List Hidden) (added : List (List ℕ)) (work left : Work) (k k2 : Kept)
     → macro_of set.table t ≡ Some m → is_function m.form ≡ false → name ≡ t.tok → added ≡ t.hides ++ t.tok.text ∷ []
     → finished k [] (brought set (whole set) depth before name m [] work) ≡ Ok (toks, left, k2) → ts2 ≡ map (hide_more added) toks ++ ts
     → finished k [] (whole set depth before (t ∷ ts) work) ≡ finished k2 [] (whole set depth before ts2 left)
@@ -56,7 +57,7 @@ object-goes set depth before t name m ts ts2 toks added work left k k2 is object
     ap (λ (r : Result Expanded Fault). finished k [] r) (object-is set depth before t name m ts added work is object named adds)
     ∙ finished-replaced set depth before name m added [] ts work k k2 toks ts2 left brings put
 
-pub object-faults : (set : Setting) (depth before : ℕ) (t : Hidden) (name : Token) (m : Definition) (ts : List Hidden) (added : List (List ℕ)) (work : ℕ) (k : Kept)
+pub object-faults : (set : Setting) (depth before : ℕ) (t : Hidden) (name : Token) (m : Definition) (ts : List Hidden) (added : List (List ℕ)) (work : Work) (k : Kept)
     → macro_of set.table t ≡ Some m → is_function m.form ≡ false → name ≡ t.tok → added ≡ t.hides ++ t.tok.text ∷ []
     → (f : Fault) → finished k [] (brought set (whole set) depth before name m [] work) ≡ Err f → finished k [] (whole set depth before (t ∷ ts) work) ≡ Err f
 object-faults set depth before t name m ts added work k is object named adds f h =
@@ -77,20 +78,20 @@ pub record Calling (set : Setting) (t : Hidden) (m : Definition) (o : Option Hid
   pub opens : begins_open old ≡ true
   pub taken : IsTaken o old new
 
-call-is : (set : Setting) (depth before : ℕ) (t : Hidden) (m : Definition) (o : Option Hidden) (old new : List Hidden) (work : ℕ) → Calling set t m o old new
+call-is : (set : Setting) (depth before : ℕ) (t : Hidden) (m : Definition) (o : Option Hidden) (old new : List Hidden) (work : Work) → Calling set t m o old new
     → whole set depth before (t ∷ old) work ≡ onward (read_from t m (call_from new (commas_of m) 0)) (λ r. replaced set (whole set) depth before t.tok m r.1 r.0 r.2 work)
 call-is set depth before t m o old new work c =
     let p = open_taken o old new c.taken c.opens in
     ap (λ (ts : List Hidden). whole set depth before (t ∷ ts) work) p.1 ∙ whole-call set depth before t p.0 new work m c.named c.function p.2
 
-pub call-unread : (set : Setting) (depth before : ℕ) (t : Hidden) (m : Definition) (o : Option Hidden) (old new : List Hidden) (work : ℕ) (k : Kept) → Calling set t m o old new
+pub call-unread : (set : Setting) (depth before : ℕ) (t : Hidden) (m : Definition) (o : Option Hidden) (old new : List Hidden) (work : Work) (k : Kept) → Calling set t m o old new
     → (f : Fault) → read_from t m (call_from new (commas_of m) 0) ≡ Err f → finished k [] (whole set depth before (t ∷ old) work) ≡ Err f
 call-unread set depth before t m o old new work k c f h =
     ap (λ (r : Result Expanded Fault). finished k [] r)
     (call-is set depth before t m o old new work c
     ∙ ap (λ (r : Result (List (List Hidden) × List (List ℕ) × List Hidden) Fault). onward r (λ v. replaced set (whole set) depth before t.tok m v.1 v.0 v.2 work)) h)
 
-read-is : (set : Setting) (depth before : ℕ) (t : Hidden) (name : Token) (m : Definition) (o : Option Hidden) (old new rest : List Hidden) (raw raw2 : List (List Hidden)) (added : List (List ℕ)) (work : ℕ)
+read-is : (set : Setting) (depth before : ℕ) (t : Hidden) (name : Token) (m : Definition) (o : Option Hidden) (old new rest : List Hidden) (raw raw2 : List (List Hidden)) (added : List (List ℕ)) (work : Work)
     → Calling set t m o old new → read_from t m (call_from new (commas_of m) 0) ≡ Ok (raw, added, rest) → name ≡ t.tok → raw2 ≡ raw
     → whole set depth before (t ∷ old) work ≡ replaced set (whole set) depth before name m added raw2 rest work
 read-is set depth before t name m o old new rest raw raw2 added work c h named same =
@@ -100,7 +101,7 @@ read-is set depth before t name m o old new rest raw raw2 added work c h named s
     ∙ ap (λ (a : List (List Hidden)). replaced set (whole set) depth before name m added a rest work) (sym same)
 
 pub call-goes : (set : Setting) (depth before : ℕ) (t : Hidden) (name : Token) (m : Definition) (o : Option Hidden) (old new rest ts2 toks : List Hidden) (raw raw2 : List (List Hidden)) (added : List (List ℕ))
-    → (work left : ℕ) (k k2 : Kept) → Calling set t m o old new → read_from t m (call_from new (commas_of m) 0) ≡ Ok (raw, added, rest) → name ≡ t.tok → raw2 ≡ raw
+    → (work left : Work) (k k2 : Kept) → Calling set t m o old new → read_from t m (call_from new (commas_of m) 0) ≡ Ok (raw, added, rest) → name ≡ t.tok → raw2 ≡ raw
     → finished k [] (brought set (whole set) depth before name m raw2 work) ≡ Ok (toks, left, k2) → ts2 ≡ map (hide_more added) toks ++ rest
     → finished k [] (whole set depth before (t ∷ old) work) ≡ finished k2 [] (whole set depth before ts2 left)
 call-goes set depth before t name m o old new rest ts2 toks raw raw2 added work left k k2 c h named same brings put =
@@ -108,7 +109,7 @@ call-goes set depth before t name m o old new rest ts2 toks raw raw2 added work 
     ∙ finished-replaced set depth before name m added raw2 rest work k k2 toks ts2 left brings put
 
 pub call-faults : (set : Setting) (depth before : ℕ) (t : Hidden) (name : Token) (m : Definition) (o : Option Hidden) (old new rest : List Hidden) (raw raw2 : List (List Hidden)) (added : List (List ℕ))
-    → (work : ℕ) (k : Kept) → Calling set t m o old new → read_from t m (call_from new (commas_of m) 0) ≡ Ok (raw, added, rest) → name ≡ t.tok → raw2 ≡ raw
+    → (work : Work) (k : Kept) → Calling set t m o old new → read_from t m (call_from new (commas_of m) 0) ≡ Ok (raw, added, rest) → name ≡ t.tok → raw2 ≡ raw
     → (f : Fault) → finished k [] (brought set (whole set) depth before name m raw2 work) ≡ Err f → finished k [] (whole set depth before (t ∷ old) work) ≡ Err f
 call-faults set depth before t name m o old new rest raw raw2 added work k c h named same f fault =
     ap (λ (r : Result Expanded Fault). finished k [] r) (read-is set depth before t name m o old new rest raw raw2 added work c h named same)
@@ -116,7 +117,7 @@ call-faults set depth before t name m o old new rest raw raw2 added work k c h n
 
 -- ---- the list
 
-pub whole-turn : (set : Setting) (depth before before2 : ℕ) (first : Hidden) (stayed : Option Hidden) (ts rest rest2 out out2 : List Hidden) (work work2 : ℕ) (k k2 : Kept) (all : Ending)
+pub whole-turn : (set : Setting) (depth before before2 : ℕ) (first : Hidden) (stayed : Option Hidden) (ts rest rest2 out out2 : List Hidden) (work work2 : Work) (k k2 : Kept) (all : Ending)
     → ts ≡ first ∷ rest
     → finished k [] (whole set depth before (first ∷ rest) work) ≡ finished k2 (option_to_list stayed) (whole set depth (before_behind stayed depth before) rest2 work2)
     → before2 ≡ before_behind stayed depth before → out2 ≡ out ++ option_to_list stayed → finished k out (whole set depth before ts work) ≡ all
@@ -126,13 +127,13 @@ whole-turn set depth before before2 first stayed ts rest rest2 out out2 work wor
     ∙ finished_turn k k2 out out2 (option_to_list stayed) (whole set depth before (first ∷ rest) work) (whole set depth (before_behind stayed depth before) rest2 work2) all goes pushed
     (ap (λ (xs : List Hidden). finished k out (whole set depth before xs work)) (sym split) ∙ so_far)
 
-pub whole-fault : (set : Setting) (depth before : ℕ) (first : Hidden) (ts rest out : List Hidden) (work : ℕ) (k : Kept) (all : Ending)
+pub whole-fault : (set : Setting) (depth before : ℕ) (first : Hidden) (ts rest out : List Hidden) (work : Work) (k : Kept) (all : Ending)
     → ts ≡ first ∷ rest → finished k out (whole set depth before ts work) ≡ all
     → (f : Fault) → finished k [] (whole set depth before (first ∷ rest) work) ≡ Err f → all ≡ Err f
 whole-fault set depth before first ts rest out work k all split so_far f h =
     sym so_far ∙ ap (λ (xs : List Hidden). finished k out (whole set depth before xs work)) split ∙ finished_fault k out (whole set depth before (first ∷ rest) work) f h
 
-pub whole-end : (set : Setting) (depth before : ℕ) (o : Option Hidden) (ts new out : List Hidden) (work : ℕ) (k : Kept) (all : Ending) → o ≡ None → IsTaken o ts new
+pub whole-end : (set : Setting) (depth before : ℕ) (o : Option Hidden) (ts new out : List Hidden) (work : Work) (k : Kept) (all : Ending) → o ≡ None → IsTaken o ts new
     → finished k out (whole set depth before ts work) ≡ all → all ≡ Ok (out, work, k)
 whole-end set depth before o ts new out work k all is taken so_far =
     sym so_far ∙ ap (λ (xs : List Hidden). finished k out (whole set depth before xs work)) (nothing_taken o ts new is taken)

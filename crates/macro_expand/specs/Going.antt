@@ -2,6 +2,7 @@
 -- and spends the work, where the definition gives them together at the end.
 use Rattle.std.specs.Prelude.{◌≡◌, ℕ, ◌-◌, Bool, true, false, if◌then◌else◌, nat_lt, List, [], ◌∷◌, ◌++◌, Option, Some, None, Result, Ok, Err, IfSome}
 use Rattle.cs_base.specs.Token.{Token}
+use Rattle.macro_body.specs.declared.notes.Work.{Work}
 use Rattle.macro_body.specs.declared.definitions.Definition.{Definition}
 use Rattle.macro_expand.specs.declared.context.Context.{Context}
 use Rattle.macro_body.specs.declared.fault.ExpandFault.{ExpandFault}
@@ -18,7 +19,7 @@ abbrev pub setting_of : Context → Setting
 setting_of cx = record { table = table_of cx.macros.now; path = cx.path.now }
 
 -- the whole expansion of tokens, where so many were put out before
-abbrev pub whole_in : Context → ℕ → List Hidden → ℕ → Result Expanded Fault
+abbrev pub whole_in : Context → ℕ → List Hidden → Work → Result Expanded Fault
 whole_in cx before ts work = whole (setting_of cx) cx.depth before ts work
 
 -- how many tokens are put out behind a token that stays, if one does
@@ -27,7 +28,7 @@ before_behind None depth before = before
 before_behind (Some t) depth before = one_more depth before
 
 -- an ending without hide sets behind tokens that were put out before
-abbrev pub plain : List Token → Result (List Hidden × ℕ × Kept) Fault → Result (List Token × ℕ × Kept) Fault
+abbrev pub plain : List Token → Result (List Hidden × Work × Kept) Fault → Result (List Token × Work × Kept) Fault
 plain out (Ok v) = Ok (out ++ toks_of v.0, v.1, v.2)
 plain out (Err fault) = Err fault
 
@@ -37,21 +38,22 @@ GoesOn (Ok x) all left = all ≡ left x
 GoesOn (Err e) all left = IfSome (fault_of e) (λ fault. all ≡ Err fault)
 
 -- what a replacement puts in, what happened, the name first, and the work that is left
-abbrev pub brought : Setting → Next → ℕ → ℕ → Token → Definition → List (List Hidden) → ℕ → Result Expanded Fault
+abbrev pub brought : Setting → Next → ℕ → ℕ → Token → Definition → List (List Hidden) → Work → Result Expanded Fault
 brought set next depth before name m raw work =
     onward (put_for m.form set.path next depth before name m raw work) (λ e. Ok (noted (first_notes name m before) e))
 
 -- a token in place of a name at the cost of one, and the work that is left
-abbrev pub one_spent : Token → Token → ℕ → Result (List Hidden × ℕ) Fault
-one_spent name tok work = if nat_lt work 1 then Err (TooMuchWork name.at) else Ok (hidden tok [] ∷ [], work - 1)
+abbrev pub one_spent : Token → Token → Work → Result (List Hidden × Work) Fault
+one_spent name tok work =
+    if nat_lt work.left 1 then Err (TooMuchWork name.at) else Ok (hidden tok [] ∷ [], record work { left = work.left - 1 })
 
 -- the expanded argument, or nothing where it is not to be expanded
-abbrev pub full_of : Bool → Next → ℕ → ℕ → Token → List Hidden → ℕ → Result Expanded Fault
+abbrev pub full_of : Bool → Next → ℕ → ℕ → Token → List Hidden → Work → Result Expanded Fault
 full_of true next depth before name a work = alone next depth before name a work
 full_of false next depth before name a work = Ok (expanded [] [] work)
 
 -- expanded arguments behind others, the work that is left, and what is kept of what happened
-abbrev pub all_full : Kept → List (List Hidden) → Result Full Fault → Result (List (List Hidden) × ℕ × Kept) Fault
+abbrev pub all_full : Kept → List (List Hidden) → Result Full Fault → Result (List (List Hidden) × Work × Kept) Fault
 all_full before lists (Ok f) = Ok (lists ++ f.lists, f.left, kept_with before f.notes)
 all_full before lists (Err fault) = Err fault
 

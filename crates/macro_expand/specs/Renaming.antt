@@ -6,13 +6,14 @@ use Rattle.std.specs.Option.{is_none}
 use Rattle.cs_base.specs.declared.tokens.Kind.{Kind}
 use Rattle.cs_base.specs.declared.positions.Pos.{Pos}
 use Rattle.cs_base.specs.Token.{Token, token}
+use Rattle.macro_body.specs.declared.notes.Work.{Work}
 use Rattle.macro_body.specs.Below.paste_origin.Pasting.{glue_of}
 use Rattle.macro_body.specs.Below.paste_origin.Strings.{stringize_of}
 use Rattle.macro_body.specs.declared.definitions.Definition.{Definition}
 use Rattle.macro_body.specs.Below.line_shape.Signs.{is_name, is_identifier, is_punctuator}
 use Rattle.macro_body.specs.Hides.{Hidden, hidden}
 use Rattle.macro_body.specs.Macro.{Table, parameter_at}
-use Rattle.macro_body.specs.Notes.{Note, Replaced, Linked, Stringized, Pasted, Expanded, expanded}
+use Rattle.macro_body.specs.Notes.{Note, Replaced, Linked, Stringized, Pasted, Counted, Expanded, expanded}
 use Rattle.macro_body.specs.Substitution.{digit_origins}
 use Rattle.macro_expand.specs.Expansion.{expansion}
 
@@ -52,6 +53,7 @@ renamed_note r (Replaced name m before) = Replaced (renamed r name) (renamed r m
 renamed_note r (Linked x y) = Linked (renamed r x) (renamed r y)
 renamed_note r (Stringized toks s) = Stringized (map (renamed r) toks) (renamed r s)
 renamed_note r (Pasted x y z) = Pasted (renamed r x) (renamed r y) (renamed r z)
+renamed_note r (Counted z) = Counted (renamed r z)
 
 -- an expansion, renamed: the work that is left stays
 abbrev pub renamed_expansion : Renaming → Expanded → Expanded
@@ -101,6 +103,7 @@ labelled_as u t = token t.kind t.text t.origins u.gap u.at u.line u.direct
 abbrev pub Respects : Occurring → Renaming → Note → Type 0
 Respects o r (Replaced name m before) = spelled r name ≡ r.macro_name name.text
 Respects o r (Linked x y) = Unit {0}
+Respects o r (Counted z) = Unit {0}
 Respects o r (Stringized toks s) = stringize_of (map (renamed r) toks) ≡ Ok (renamed r s)
 Respects o r (Pasted x y z) =
     (glue_of (renamed r x) (renamed r y) ≡ Ok (labelled_as (renamed r x) (renamed r z))) × (occurs o z ≡ true)
@@ -112,6 +115,6 @@ AllRespected o r (note ∷ notes) = Respects o r note × AllRespected o r notes
 -- The law: an expansion without a fault, each note of which goes well with a renaming that keeps the macros,
 -- is the renamed expansion of the renamed run over the renamed macros.
 abbrev pub ExpansionIsRenamed : Type 0
-ExpansionIsRenamed = (o : Occurring) (r : Renaming) (old new : Table) (path : List ℕ) (run : List Token) (work : ℕ) (e : Expanded)
+ExpansionIsRenamed = (o : Occurring) (r : Renaming) (old new : Table) (path : List ℕ) (run : List Token) (work : Work) (e : Expanded)
     → Keeps o r old new → AllOccur o run → expansion old path run work ≡ Ok e → AllRespected o r e.notes
     → expansion new path (map (renamed r) run) work ≡ Ok (renamed_expansion r e)

@@ -1,8 +1,9 @@
 // Expansion of a list of tokens (6.10.3.4): the first name that can be replaced is replaced, and its
 // result is scanned again together with what follows.
-ghost use Rattle.std.specs.Prelude.{◌≡◌, ℕ, ◌+◌, ◌≤◌, ◌<◌, ◌^◌, ◌++◌, ◌∷◌, [], ◌&&◌, true, false, length, option_to_list, Some, IfOk, IfSome, OnOk, IsTrue};
+ghost use Rattle.std.specs.Prelude.{◌≡◌, ◌+◌, ◌≤◌, ◌<◌, ◌^◌, ◌++◌, ◌∷◌, [], ◌&&◌, true, false, length, option_to_list, Some, IfOk, IfSome, OnOk, IsTrue};
 ghost use Rattle.std.specs.List.{list_all};
 ghost use Rattle.cs_base.specs.Answer.{Gives};
+ghost use Rattle.macro_body.specs.declared.notes.Work.{Work as WorkValue};
 ghost use Rattle.macro_body.specs.Hides.{toks_of};
 ghost use Rattle.macro_body.specs.Macro.{is_function};
 ghost use Rattle.macro_body.specs.Live.{table_of};
@@ -47,8 +48,8 @@ pub fn expand(
     // Each replacement costs more than it puts in.
     ensures few { IfOk result (λ toks.
         work.new.left + length toks.items ≤ work.old.left + length run.now) }
-    ensures answer { Gives (λ toks. (toks.items, work.new.left, notes.new)) fault_of result
-        (expanded_kept notes.old (expansion (table_of macros.now) path.now run.now work.old.left)) }
+    ensures answer { Gives (λ toks. (toks.items, work.new, notes.new)) fault_of result
+        (expanded_kept notes.old (expansion (table_of macros.now) path.now run.now work.old)) }
 {
     let context = Context {
         alloc,
@@ -74,8 +75,8 @@ impl<'a> Context<'a> {
         ensures falls { OnOk result (work.new.left ≤ work.old.left) }
         ensures few { IfOk result (λ v.
             work.new.left + length v.items ≤ work.old.left + length rest.entry) }
-        ensures answer { Gives (λ v. (v.items, work.new.left, notes.new)) fault_of result
-            (expanded_kept notes.old (whole_in self.now 0 rest.entry work.old.left)) }
+        ensures answer { Gives (λ v. (v.items, work.new, notes.new)) fault_of result
+            (expanded_kept notes.old (whole_in self.now 0 rest.entry work.old)) }
     {
         let mut out = Vec::new(self.alloc);
         let mut before = self.plain_run(0, &mut rest, &mut out)?;
@@ -97,7 +98,7 @@ impl<'a> Context<'a> {
         ensures counted { IfOk result (λ after. after + length rest.new ≡ before + length rest.old) }
         ensures shorter { OnOk result (length rest.new ≤ length rest.old) }
         ensures few { OnOk result (length out.new.items + length rest.new ≡ length out.old.items + length rest.old) }
-        ensures answer { IfOk result (λ after. (kept : Kept) (left : ℕ) →
+        ensures answer { IfOk result (λ after. (kept : Kept) (left : WorkValue) →
             plain out.new.items (finished kept [] (whole_in self.now after rest.new left))
             ≡ plain out.old.items (finished kept [] (whole_in self.now before rest.old left))) }
     {
@@ -124,8 +125,8 @@ impl<'a> Context<'a> {
         ensures falls { OnOk result (work.new.left ≤ work.old.left) }
         ensures few { IfOk result (λ v.
             work.new.left + length v.items ≤ work.old.left + length rest.entry) }
-        ensures answer { Gives (λ v. (v.items, work.new.left, notes.new)) fault_of result
-            (finished notes.old [] (whole_in self.now before rest.entry work.old.left)) }
+        ensures answer { Gives (λ v. (v.items, work.new, notes.new)) fault_of result
+            (finished notes.old [] (whole_in self.now before rest.entry work.old)) }
     {
         let mut out = Vec::new(self.alloc);
         'toks: while let Some(first) = rest.take()? {
@@ -155,9 +156,9 @@ impl<'a> Context<'a> {
             (work.new.left + length rest.new ≤ work.old.left + length rest.old) }
         ensures falls { OnOk result (work.new.left ≤ work.old.left) }
         ensures answer { GoesOn result
-            (finished notes.old [] (whole_in self.now before (first ∷ rest.old) work.old.left))
+            (finished notes.old [] (whole_in self.now before (first ∷ rest.old) work.old))
             (λ stayed. finished notes.new (option_to_list stayed)
-            (whole_in self.now (before_behind stayed self.now.depth before) rest.new work.new.left)) }
+            (whole_in self.now (before_behind stayed self.now.depth before) rest.new work.new)) }
     {
         match self.macro_of(&first) {
             Some(m) => {
@@ -193,9 +194,9 @@ impl<'a> Context<'a> {
             (work.new.left + length rest.new ≤ work.old.left + length rest.old) }
         ensures falls { OnOk result (work.new.left ≤ work.old.left) }
         ensures answer { GoesOn result
-            (finished notes.old [] (whole_in self.now before (first ∷ rest.old) work.old.left))
+            (finished notes.old [] (whole_in self.now before (first ∷ rest.old) work.old))
             (λ stayed. finished notes.new (option_to_list stayed)
-            (whole_in self.now (before_behind stayed self.now.depth before) rest.new work.new.left)) }
+            (whole_in self.now (before_behind stayed self.now.depth before) rest.new work.new)) }
     {
         let added = with_name(self.alloc, &first)?;
         let toks = self.replacement(before, first.tok(), m, &[], work, notes)?;
@@ -226,9 +227,9 @@ impl<'a> Context<'a> {
             (work.new.left + length rest.new ≤ work.old.left + length rest.old) }
         ensures falls { OnOk result (work.new.left ≤ work.old.left) }
         ensures answer { GoesOn result
-            (finished notes.old [] (whole_in self.now before (first ∷ rest.old) work.old.left))
+            (finished notes.old [] (whole_in self.now before (first ∷ rest.old) work.old))
             (λ stayed. finished notes.new (option_to_list stayed)
-            (whole_in self.now (before_behind stayed self.now.depth before) rest.new work.new.left)) }
+            (whole_in self.now (before_behind stayed self.now.depth before) rest.new work.new)) }
     {
         if begins_open(rest) {
             self.call(before, &first, m, rest, work, notes)?;
@@ -261,8 +262,8 @@ impl<'a> Context<'a> {
             (work.new.left + length rest.new ≤ work.old.left + length rest.old) }
         ensures falls { OnOk result (work.new.left ≤ work.old.left) }
         ensures answer { GoesOn result
-            (finished notes.old [] (whole_in self.now before (first.now ∷ rest.old) work.old.left))
-            (λ _. finished notes.new [] (whole_in self.now before rest.new work.new.left)) }
+            (finished notes.old [] (whole_in self.now before (first.now ∷ rest.old) work.old))
+            (λ _. finished notes.new [] (whole_in self.now before rest.new work.new)) }
     {
         let _sign = rest.take()?;
         let read = read_call(self.alloc, first, m, rest)?;

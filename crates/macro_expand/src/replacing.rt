@@ -2,7 +2,7 @@
 ghost use Rattle.std.specs.Prelude.{◌≡◌, ◌+◌, ◌≤◌, ◌<◌, ◌^◌, ◌∷◌, ◌++◌, [], length, IfOk, OnOk, IsTrue};
 ghost use Rattle.std.specs.List.{list_all};
 ghost use Rattle.cs_base.specs.Answer.{Gives};
-ghost use Rattle.macro_expand.specs.Expansion.{links_name, first_notes, put_for, substituted, full_from, alone, whole};
+ghost use Rattle.macro_expand.specs.Expansion.{links_name, first_notes, put_for, counted, substituted, full_from, alone, whole};
 ghost use Rattle.macro_body.specs.Kept.{kept_with, finished};
 ghost use Rattle.macro_body.specs.Faults.{fault_of};
 ghost use Rattle.macro_body.specs.Sound.{is_traced, is_low, all_sound, are_fitting};
@@ -10,10 +10,10 @@ ghost use Rattle.macro_expand.specs.Going.{setting_of, brought, one_spent, full_
 
 use crate::context::{Context, DEEPEST};
 use crate::rest::{Lent, Rest};
-use cs_base::{Memory, Tok};
+use cs_base::{MOST_BYTES, Memory, Tok};
 use macro_body::{
     Chain, Definition, ExpandFault, Form, HiddenTok, HiddenToks, HideSet, Notes, Work, chains_of,
-    line_number, occurs_alone, only, path_string, result_of, work_left,
+    line_number, number_token, occurs_alone, only, path_string, result_of, work_left,
 };
 use std::alloc::Global;
 
@@ -34,9 +34,9 @@ impl<'a> Context<'a> {
         requires fitting { IsTrue (are_fitting (before + work.old.left) raw.now) }
         ensures sound { IfOk result (λ v. IsTrue (all_sound v.items)) }
         ensures within { IfOk result (λ v. work.new.left + length v.items ≤ work.old.left) }
-        ensures answer { Gives (λ v. (v.items, work.new.left, notes.new)) fault_of result
+        ensures answer { Gives (λ v. (v.items, work.new, notes.new)) fault_of result
             (finished notes.old [] (brought (setting_of self.now) (whole (setting_of self.now))
-            self.now.depth before name.now m.now raw.now work.old.left)) }
+            self.now.depth before name.now m.now raw.now work.old)) }
     {
         note_name(notes, name, m, before)?;
         self.put_for(before, name, m, raw, work, notes)
@@ -58,9 +58,9 @@ impl<'a> Context<'a> {
         requires fitting { IsTrue (are_fitting (before + work.old.left) raw.now) }
         ensures sound { IfOk result (λ v. IsTrue (all_sound v.items)) }
         ensures within { IfOk result (λ v. work.new.left + length v.items ≤ work.old.left) }
-        ensures answer { Gives (λ v. (v.items, work.new.left, notes.new)) fault_of result
+        ensures answer { Gives (λ v. (v.items, work.new, notes.new)) fault_of result
             (finished notes.old [] (put_for m.now.form (setting_of self.now).path
-            (whole (setting_of self.now)) self.now.depth before name.now m.now raw.now work.old.left)) }
+            (whole (setting_of self.now)) self.now.depth before name.now m.now raw.now work.old)) }
     {
         match m.form {
             Form::Line => one_token(self.alloc, line_number(self.alloc, name)?, name, work),
@@ -70,6 +70,7 @@ impl<'a> Context<'a> {
                 name,
                 work,
             ),
+            Form::Counter => counted(self.alloc, name, work, notes),
             _ => self.substituted(before, name, m, raw, work, notes),
         }
     }
@@ -90,9 +91,9 @@ impl<'a> Context<'a> {
         requires fitting { IsTrue (are_fitting (before + work.old.left) raw.now) }
         ensures sound { IfOk result (λ v. IsTrue (all_sound v.items)) }
         ensures within { IfOk result (λ v. work.new.left + length v.items ≤ work.old.left) }
-        ensures answer { Gives (λ v. (v.items, work.new.left, notes.new)) fault_of result
+        ensures answer { Gives (λ v. (v.items, work.new, notes.new)) fault_of result
             (finished notes.old [] (substituted (whole (setting_of self.now)) self.now.depth before
-            name.now m.now raw.now work.old.left)) }
+            name.now m.now raw.now work.old)) }
     {
         let body = chains_of(self.alloc, m)?;
         let chains = body.as_slice();
@@ -123,9 +124,9 @@ impl<'a> Context<'a> {
         requires fitting { IsTrue (are_fitting (before + work.old.left) raw.now) }
         ensures sound { IfOk result (λ full. IsTrue (list_all all_sound full.items)) }
         ensures falls { OnOk result (work.new.left ≤ work.old.left) }
-        ensures answer { Gives (λ full. (full.items, work.new.left, notes.new)) fault_of result
+        ensures answer { Gives (λ full. (full.items, work.new, notes.new)) fault_of result
             (all_full notes.old [] (full_from (whole (setting_of self.now)) self.now.depth before
-            name.now chains.now 0 raw.now work.old.left)) }
+            name.now chains.now 0 raw.now work.old)) }
     {
         let mut full = Vec::new(self.alloc);
         for (number, argument) in raw.iter().enumerate() {
@@ -151,9 +152,9 @@ impl<'a> Context<'a> {
         requires fits { before + work.old.left + length argument.now < 2 ^ 32 }
         ensures sound { IfOk result (λ full. IsTrue (all_sound full)) }
         ensures falls { OnOk result (work.new.left ≤ work.old.left) }
-        ensures answer { Gives (λ full. (full, work.new.left, notes.new)) fault_of result
+        ensures answer { Gives (λ full. (full, work.new, notes.new)) fault_of result
             (finished notes.old [] (full_of lone (whole (setting_of self.now)) self.now.depth before
-            name.now argument.now work.old.left)) }
+            name.now argument.now work.old)) }
     {
         if lone {
             let toks = self.alone(before, name, argument, work, notes)?;
@@ -177,9 +178,9 @@ impl<'a> Context<'a> {
         requires fits { before + work.old.left + length argument.now < 2 ^ 32 }
         ensures sound { IfOk result (λ v. IsTrue (all_sound v.items)) }
         ensures falls { OnOk result (work.new.left ≤ work.old.left) }
-        ensures answer { Gives (λ v. (v.items, work.new.left, notes.new)) fault_of result
+        ensures answer { Gives (λ v. (v.items, work.new, notes.new)) fault_of result
             (finished notes.old [] (alone (whole (setting_of self.now)) self.now.depth before
-            name.now argument.now work.old.left)) }
+            name.now argument.now work.old)) }
     {
         if self.depth < DEEPEST {
             let inside = self.inside();
@@ -208,7 +209,7 @@ fn links_name(form: Form) -> bool
     ensures { result ≡ links_name form }
 {
     match form {
-        Form::Line | Form::File => false,
+        Form::Line | Form::File | Form::Counter => false,
         _ => true,
     }
 }
@@ -220,7 +221,7 @@ fn one_token(
     name: &Tok,
     work: &mut Work,
 ) -> Result<Vec<HiddenTok>, ExpandFault>
-    ensures { Gives (λ v. (v.items, work.new.left)) fault_of result (one_spent name.now tok work.old.left) }
+    ensures { Gives (λ v. (v.items, work.new)) fault_of result (one_spent name.now tok work.old) }
 {
     if work.left < 1 {
         return Err(ExpandFault::TooMuchWork { at: name.at() });
@@ -228,6 +229,28 @@ fn one_token(
     let toks = only(alloc, HiddenTok::new(tok, HideSet::new(alloc)))?;
     work.left -= 1;
     Ok(toks)
+}
+
+// The next number of the unit. There are fewer than a file may have bytes, as each costs work.
+fn counted(
+    alloc: Global,
+    name: &Tok,
+    work: &mut Work,
+    notes: &mut Notes,
+) -> Result<Vec<HiddenTok>, ExpandFault>
+    requires low { IsTrue (is_low name.now) }
+    ensures sound { IfOk result (λ v. IsTrue (all_sound v.items)) }
+    ensures within { IfOk result (λ v. work.new.left + length v.items ≤ work.old.left) }
+    ensures answer { Gives (λ v. (v.items, work.new, notes.new)) fault_of result
+        (finished notes.old [] (counted name.now work.old)) }
+{
+    if work.counter as usize >= MOST_BYTES {
+        return Err(ExpandFault::TooMuchWork { at: name.at() });
+    }
+    let tok = number_token(alloc, name, work.counter)?;
+    work.counter += 1;
+    notes.note_counted(&tok)?;
+    one_token(alloc, tok, name, work)
 }
 
 fn push_argument(full: &mut Vec<HiddenToks>, toks: HiddenToks) -> Result<(), Memory>

@@ -60,7 +60,7 @@ read_only_list a f l = if is_read_only a.table a.workspace.readonly f.number the
 -- ---- the tokens of the list of a call
 
 -- OddToken: `#` or `##`, which would begin a directive in another place, and a name that a macro replaces in whose replacement list
--- parentheses do not pair; LineNumber: `__LINE__` is replaced there
+-- parentheses do not pair; LineNumber: `__LINE__` or `__COUNTER__` is replaced there
 abbrev pub inside_offences : List Pos → List Pos → Token → List Offence
 inside_offences torn lines t =
     (if is_hash t || (is_paste t || has torn t.at) then offence cause.OddToken t.at ∷ [] else [])

@@ -35,9 +35,10 @@ is_all t m = option_map_or (is_pos m.start) (origin_at t 0) false && m.len == le
 abbrev pub is_whole : List Part → Token → Bool
 is_whole members t = option_map_or (is_all t) (member_of members (origin_at t 0)) false
 
--- `__LINE__` and `__FILE__` (6.10.8): where no line defines them yet they are replaced too, without a link
+-- `__LINE__` and `__FILE__` (6.10.8), and `__COUNTER__` of GNU C: where no line defines them yet they are replaced too,
+-- without a link
 abbrev pub is_predefined : Token → Bool
-is_predefined t = bytes_eq t.text (codes "__LINE__") || bytes_eq t.text (codes "__FILE__")
+is_predefined t = (bytes_eq t.text (codes "__LINE__") || bytes_eq t.text (codes "__FILE__")) || bytes_eq t.text (codes "__COUNTER__")
 
 abbrev pub names_macro : List Part → Token → Bool
 names_macro members t = is_whole members t && not (is_predefined t)
@@ -79,9 +80,9 @@ called_places members a = in_events (called_place (macro_places members a)) a
 abbrev pub replaced_place : List Pos → Event → List Pos
 replaced_place macros e = if replaces macros e then e.at ∷ [] else []
 
--- where `__LINE__` is replaced by the number of its line (6.10.8)
+-- where `__LINE__` is replaced by the number of its line (6.10.8), or `__COUNTER__` of GNU C by the next number of the unit
 abbrev pub is_line_number : EventKind → Option Pos → Option Token → Bool
-is_line_number kind.Replaced None (Some name) = bytes_eq name.text (codes "__LINE__")
+is_line_number kind.Replaced None (Some name) = bytes_eq name.text (codes "__LINE__") || bytes_eq name.text (codes "__COUNTER__")
 is_line_number _ _ _ = false
 
 abbrev pub number_place : Event → List Pos

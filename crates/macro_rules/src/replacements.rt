@@ -34,7 +34,9 @@ fn is_whole(class: &Class<'_>, tok: &Tok) -> bool
 fn is_predefined(tok: &Tok) -> bool
     ensures { result ≡ is_predefined tok.now }
 {
-    tok.text() == b"__LINE__".as_slice() || tok.text() == b"__FILE__".as_slice()
+    tok.text() == b"__LINE__".as_slice()
+        || tok.text() == b"__FILE__".as_slice()
+        || tok.text() == b"__COUNTER__".as_slice()
 }
 
 fn is_defining(kind: EventKind) -> bool
@@ -190,7 +192,7 @@ pub(crate) fn replaced_places(
     Ok(out)
 }
 
-// Whether an event replaces `__LINE__` by the number of its line.
+// Whether an event replaces `__LINE__` by the number of its line, or `__COUNTER__` by the next number of the unit.
 fn is_line_number(event: &Event) -> bool
     ensures { result ≡ is_line_number event.now.kind event.now.def event.now.name }
 {
@@ -201,7 +203,9 @@ fn is_line_number(event: &Event) -> bool
         return false;
     }
     match &event.name {
-        Some(name) => name.text() == b"__LINE__".as_slice(),
+        Some(name) => {
+            name.text() == b"__LINE__".as_slice() || name.text() == b"__COUNTER__".as_slice()
+        }
         None => false,
     }
 }

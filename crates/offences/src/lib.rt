@@ -6,8 +6,7 @@
 //! account. A `Class` is an analysis with the members and the number of one of its classes; `member_over` and `member_at` tell
 //! which member holds a character, and `holds_member` whether a token holds one (`specs/Class.antt`, `specs/Tokens.antt`). A
 //! plan gives one answer or one `Refusal`, `GivesOne` of `specs/Answers.antt`, or its memory runs out (`PlanFault`,
-//! `specs/Refusals.antt`). Which offences there are belongs to the crates above, `rename_rules` and `template_rules`, but for
-//! one that stands against each new order: where a unit is of GNU C (`gnu_units`).
+//! `specs/Refusals.antt`). Which offences there are belongs to the crates above, `rename_rules` and `template_rules`.
 //!
 //! Where the members of a class are spelled otherwise, tokens are respelled by the origins of their characters, and positions move:
 //! `renaming_of` of `specs/Respelling.antt`. `class_moves` makes tables of it, of what stands for each character of a file and where,
@@ -18,7 +17,6 @@
 
 mod classes;
 mod firsts;
-mod gnu_begins;
 mod moves;
 mod puts;
 mod refusals;
@@ -27,7 +25,6 @@ mod still_toks;
 
 pub use classes::{Class, holds_member, length, member_at, member_over};
 pub use firsts::{Offence, compare, first_with};
-pub use gnu_begins::gnu_units;
 pub use moves::{FileMove, Moves, class_moves};
 pub use puts::Put;
 pub use refusals::{PlanFault, Refusal, refused};

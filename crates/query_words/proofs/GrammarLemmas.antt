@@ -6,10 +6,12 @@ use Rattle.std.proofs.lemmas.List.{length-take-le, take_all, take_at}
 use Rattle.cs_base.specs.Answer.{result_then}
 use Rattle.query_words.specs.declared.faults.QueryFault.{QueryFault}
 use Rattle.query_words.specs.declared.faults.QueryFault.TheVariants.{Bad, Deep}
-use Rattle.query_words.specs.Grammar.{Derives, Alternatives, GoesOn, IsDecided, IsNone, IsRead, word_end}
+use Rattle.query_words.specs.declared.faults.QueryRefusal.{QueryRefusal}
+use Rattle.query_words.specs.declared.faults.QueryRefusal.TheVariants.{Fault, Memory}
+use Rattle.query_words.specs.Grammar.{Derives, Alternatives, GoesOn, IsNone, IsRead, word_end}
 use Rattle.query_words.specs.Queries.{Query}
 use Rattle.query_words.specs.Reading.{Read, read, depth_limit, either, enclosed, parsed, whole}
-use Rattle.query_words.specs.Walk.{decided}
+use Rattle.query_words.specs.Steps.{IsFault, IsFaultRead}
 use Rattle.query_words.proofs.DerivingLemmas.{Means, alternatives}
 use Rattle.query_words.proofs.NearLemmas.{Alike, reach, read_near}
 use Rattle.query_words.proofs.PlaceLemmas.{Stands, stands_join}
@@ -97,11 +99,7 @@ parsed_is_read text = found_is_read text (either (enclosed text depth_limit) tex
 pub derives_of_parsed : (text : List ℕ) (q : Query) → parsed text ≡ Ok q → Derives Alternatives depth_limit text q
 derives_of_parsed text q is = rw is at (parsed_is_read text)
 
--- what is decided of a word is so by the grammar
-decides : (text : List ℕ) (v : Query → Bool) (found : Result Query QueryFault) → IsRead text found → IsDecided text v (decided v found)
-decides text v (Ok q) is = (q, is, refl)
-decides text v (Err fault) is = is
-
-pub decided_by_grammar : (text : List ℕ) (v : Query → Bool) (answer : Result Bool QueryFault) → answer ≡ decided v (parsed text)
-    → IsDecided text v answer
-decided_by_grammar text v answer is = rw is (decides text v (parsed text) (parsed_is_read text))
+-- a fault of a word is so by the grammar
+pub refused_by_grammar : (text : List ℕ) (e : QueryRefusal) → IsFault (parsed text) e → IsFaultRead text e
+refused_by_grammar text (Fault fault) is = rw is at (parsed_is_read text)
+refused_by_grammar text Memory is = is

@@ -1,8 +1,8 @@
 -- Patterns, and what becomes of them.
-use Rattle.std.proofs.Common.{◌≡◌, ℕ, ◌<◌, ◌≤◌, Bool, true, false, List, [], ◌∷◌, ◌++◌, length, inl, inr, refl, sym, ap, subst, arith, length-append}
-use Rattle.std.specs.Prelude.{◌==◌, filter}
-use Rattle.std.proofs.lemmas.Bool.{cases_Bool, cases_eq, eq-eqb, eqb-true, ne_eqb}
-use Rattle.query_words.specs.PlaceMarks.{is_kept}
+use Rattle.std.proofs.Common.{◌≡◌, ℕ, ◌<◌, ◌≤◌, Bool, true, false, List, [], ◌∷◌, ◌++◌, length, inl, inr, refl, sym, ap, subst, arith, length-append, ◌∙◌}
+use Rattle.std.specs.Prelude.{◌==◌, ◌&&◌, filter, nat_le}
+use Rattle.std.proofs.lemmas.Bool.{cases_Bool, cases_eq, eq-eqb, eqb-true, leb-false, ne_eqb}
+use Rattle.query_words.specs.PlaceMarks.{MatchAlike, is_kept}
 use Rattle.query_words.specs.Patterns.{goes_on, matches, some_end, star, Becomes, nothing, replaced, kept}
 
 -- an end of a text that passes a test
@@ -79,4 +79,14 @@ pub matches_none_longer : (pattern text : List ℕ) → length text < length (fi
 matches_none_longer pattern text short = elim (cases_Bool (matches pattern text)) [
   | inl is ↦ let less = becomes_longer pattern text (becomes_of pattern text is) in absurd (omega (arith, less, short))
   | inr none ↦ none
+]
+
+-- where the least length is asked first, nothing else changes
+pub least_first : (bytes pattern text : List ℕ) (least : ℕ) → least ≡ length (filter is_kept bytes) → MatchAlike bytes pattern
+    → (nat_le least (length text) && matches bytes text) ≡ matches pattern text
+least_first bytes pattern text least is same = elim (cases_Bool (nat_le least (length text))) [
+  | inl enough ↦ rw enough (same text)
+  | inr few ↦
+      let short : length text < length (filter is_kept bytes) = let e = leb-false least (length text) few in omega (arith, e, is) in
+      rw few (sym (matches_none_longer bytes text short) ∙ same text)
 ]

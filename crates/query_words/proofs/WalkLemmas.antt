@@ -1,43 +1,49 @@
--- Values along a chain of signs.
-use Rattle.std.proofs.Common.{◌≡◌, ℕ, zero, suc, ◌+◌, ◌-◌, ◌<◌, ◌≤◌, Bool, true, false, List, Result, Ok, Err, length, ◌≢◌, refl, sym, ap, ◌∙◌, arith, sub-one}
-use Rattle.std.specs.Prelude.{not, ◌&&◌, ◌||◌}
+-- What is read and compiled along a chain of signs.
+use Rattle.std.proofs.Common.{◌≡◌, ℕ, zero, suc, ◌+◌, ◌-◌, ◌<◌, ◌≤◌, true, false, List, ◌∷◌, [], ◌++◌, Result, Ok, Err, length, drop, ◌≢◌, refl, sym, ap, subst, ◌∙◌, arith, sub-one}
+use Rattle.std.specs.Prelude.{IfErr, IfOk, IsErrAnd}
 use Rattle.std.proofs.lemmas.Bool.{lt-ltb, le-ltb}
 use Rattle.cs_base.specs.Answer.{result_then}
 use Rattle.query_words.specs.declared.faults.QueryFault.{QueryFault}
 use Rattle.query_words.specs.declared.faults.QueryFault.TheVariants.{Bad, Deep}
-use Rattle.query_words.specs.declared.attributes.Facts.{Facts}
-use Rattle.query_words.specs.declared.walk.Walked.{Walked}
+use Rattle.query_words.specs.declared.faults.QueryRefusal.{QueryRefusal}
+use Rattle.query_words.specs.declared.faults.QueryRefusal.TheVariants.{Fault, Memory}
+use Rattle.query_words.specs.declared.steps.Step.{Step}
+use Rattle.query_words.specs.declared.steps.Step.TheVariants.{Negate}
 use Rattle.query_words.specs.declared.walk.Rule.{Rule}
-use Rattle.query_words.specs.declared.walk.Rule.TheVariants.{Denied}
-use Rattle.query_words.specs.Queries.{Query, Either, Both, value}
-use Rattle.query_words.specs.Reading.{Inner, Part, Read, read, ampersand, bar, exclamation, depth_limit, parsed, both, by_rule, chain, either, enclosed, is_byte, negation}
-use Rattle.query_words.specs.Walk.{valued, walked}
+use Rattle.query_words.specs.declared.walk.Rule.TheVariants.{Whole, Denied}
+use Rattle.query_words.specs.Queries.{Query, Either, Both, Not}
+use Rattle.query_words.specs.Reading.{Inner, Part, Read, read, ampersand, atom, bar, closed, closing, exclamation, opening, depth_limit, parsed, both, by_rule, chain, either, enclosed, is_byte, negation}
+use Rattle.query_words.specs.Steps.{IsCompiled, IsFault, Runs}
+use Rattle.query_words.proofs.StepLemmas.{runs_not}
 
--- What was read so far is a query of this value; with the signs that may still follow it is what all of it is.
-pub record GoesOn (v : Query → Bool) (join : Query → Query → Query) (sign : ℕ) (part : Part) (text : List ℕ) (done : ℕ) (left : Walked) (all : Result Read QueryFault) : Type 0 where
-  pub found : Read
-  pub value : walked (v found.query) found.next ≡ left
-  pub rest : chain join sign part text (length text - done) found ≡ all
+-- ---- answers
 
--- what was read, where its value is known
-pub record Reads (v : Query → Bool) (r : Result Read QueryFault) (w : Walked) : Type 0 where
-  pub found : Read
-  pub is : r ≡ Ok found
-  pub value : walked (v found.query) found.next ≡ w
+pub if_ok_then : {X E : Type 0} (r : Result X E) (P Q : X → Type 0) → IfOk r P → ((x : X) → P x → Q x) → IfOk r Q
+if_ok_then (Ok x) P Q holds then = then x holds
+if_ok_then (Err e) P Q holds then = holds
 
-pub read_of_valued : (v : Query → Bool) (r : Result Read QueryFault) (w : Walked) → Ok w ≡ valued v r → Reads v r w
-read_of_valued v (Ok found) w is = record { found = found; is = refl; value = cc }
-read_of_valued v (Err fault) w is = absurd (cc)
+pub if_err_then : {X E : Type 0} (r : Result X E) (P Q : E → Type 0) → IfErr r P → ((e : E) → P e → Q e) → IfErr r Q
+if_err_then (Ok x) P Q holds then = holds
+if_err_then (Err e) P Q holds then = then e holds
 
-pub next_of : (v : Query → Bool) {r : Result Read QueryFault} {w : Walked} → (reads : Reads v r w) → reads.found.next ≡ w.next
-next_of v reads = ap (λ (x : Walked). x.next) reads.value
+-- a refusal that is handed on
+pub handed_on : {X : Type 0} (r : Result X QueryRefusal) (e : QueryRefusal) (P : QueryRefusal → Type 0) → IsErrAnd r (λ x. x ≡ e) → P e → IfErr r P
+handed_on (Ok x) e P same holds = absurd same
+handed_on (Err f) e P same holds = subst P (sym same) holds
 
-pub holds_of : (v : Query → Bool) {r : Result Read QueryFault} {w : Walked} → (reads : Reads v r w) → v reads.found.query ≡ w.holds
-holds_of v reads = ap (λ (x : Walked). x.holds) reads.value
+-- a fault of what is read first is one of all, where it stops all
+pub fault_then : {X Y : Type 0} (r : Result X QueryFault) (s : Result Y QueryFault) → ((fault : QueryFault) → r ≡ Err fault → s ≡ Err fault)
+    → (e : QueryRefusal) → IsFault r e → IsFault s e
+fault_then r s stops (Fault fault) is = stops fault is
+fault_then r s stops Memory is = is
 
-pub fault_of_valued : (v : Query → Bool) (r : Result Read QueryFault) (fault : QueryFault) → Err fault ≡ valued v r → r ≡ Err fault
-fault_of_valued v (Ok found) fault is = absurd (cc)
-fault_of_valued v (Err other) fault is = cc
+-- ---- chains
+
+-- What was read so far is a query, compiled; with the signs that may still follow it is what all of it is.
+pub record GoesOn (join : Query → Query → Query) (sign : ℕ) (part : Part) (text : List ℕ) (done : ℕ) (old now : List Step) (next : ℕ) (all : Result Read QueryFault) : Type 0 where
+  pub query : Query
+  pub runs : Runs old now query
+  pub rest : chain join sign part text (length text - done) (read query next) ≡ all
 
 module _ (join : Query → Query → Query) (sign : ℕ) (part : Part) (text : List ℕ) where
   pub chain_there : (most : ℕ) (left right : Read) → is_byte text left.next sign ≡ true → part (left.next + 1) ≡ Ok right
@@ -66,78 +72,66 @@ module _ (join : Query → Query → Query) (sign : ℕ) (part : Part) (text : L
       let less : length text - k ≡ suc (length text - (k + 1)) = omega arith in
       ap (λ (n : ℕ). chain join sign part text n left) less
 
-module _ (v : Query → Bool) (join : Query → Query → Query) (sign : ℕ) (part : Part) (text : List ℕ) where
+module _ (join : Query → Query → Query) (sign : ℕ) (part : Part) (text : List ℕ) where
   -- the first operand
-  pub goes_on_first : (first : Result Read QueryFault) (all : Result Read QueryFault) (left : Walked)
-      → all ≡ result_then (chain join sign part text (length text)) first → Ok left ≡ valued v first
-      → GoesOn v join sign part text 0 left all
-  goes_on_first first all left is here =
-      let found = read_of_valued v first left here in
-      record {
-        found = found.found;
-        value = found.value;
-        rest =
-            let none : length text - 0 ≡ length text = omega arith in
-            ap (λ (n : ℕ). chain join sign part text n found.found) none
-            ∙ sym (is ∙ ap (result_then (chain join sign part text (length text))) found.is);
-      }
+  pub goes_on_first : (first all : Result Read QueryFault) (old now : List Step) (next : ℕ)
+      → all ≡ result_then (chain join sign part text (length text)) first → IsCompiled first old now next
+      → GoesOn join sign part text 0 old now next all
+  goes_on_first first all old now next is here = record {
+    query = here.query;
+    runs = here.runs;
+    rest =
+        let none : length text - 0 ≡ length text = omega arith in
+        ap (λ (n : ℕ). chain join sign part text n (read here.query next)) none
+        ∙ sym (is ∙ ap (result_then (chain join sign part text (length text))) here.is);
+  }
 
-  pub first_fault : (first : Result Read QueryFault) (all : Result Read QueryFault) (fault : QueryFault)
-      → all ≡ result_then (chain join sign part text (length text)) first → Err fault ≡ valued v first → all ≡ Err fault
-  first_fault first all fault is here = is ∙ ap (result_then (chain join sign part text (length text))) (fault_of_valued v first fault here)
-
-  place_of : (k : ℕ) (left : Walked) (all : Result Read QueryFault) → (before : GoesOn v join sign part text k left all)
-      → before.found.next ≡ left.next
-  place_of k left all before = ap (λ (w : Walked). w.next) before.value
+  pub first_fault : (first all : Result Read QueryFault) (e : QueryRefusal) → all ≡ result_then (chain join sign part text (length text)) first
+      → IsFault first e → IsFault all e
+  first_fault first all e is here =
+      fault_then first all (λ fault stops. is ∙ ap (result_then (chain join sign part text (length text))) stops) e here
 
   -- one sign and operand more
-  pub goes_on_more : (k : ℕ) (left right next : Walked) (all : Result Read QueryFault) → k < length text
-      → is_byte text left.next sign ≡ true → Ok right ≡ valued v (part (left.next + 1))
-      → ((p q : Query) → v p ≡ left.holds → v q ≡ right.holds → v (join p q) ≡ next.holds) → next.next ≡ right.next
-      → GoesOn v join sign part text k left all → GoesOn v join sign part text (k + 1) next all
-  goes_on_more k left right next all within there here holds behind before =
-      let operand = read_of_valued v (part (left.next + 1)) right here in
-      let place = place_of k left all before in
-      let at : part (before.found.next + 1) ≡ Ok operand.found = rw place operand.is in
-      let stands : is_byte text before.found.next sign ≡ true = rw place there in
-      let both : v (join before.found.query operand.found.query) ≡ next.holds =
-      holds before.found.query operand.found.query (ap (λ (w : Walked). w.holds) before.value) (ap (λ (w : Walked). w.holds) operand.value) in
-      let ends : operand.found.next ≡ next.next = ap (λ (w : Walked). w.next) operand.value ∙ sym behind in
-      record {
-        found = read (join before.found.query operand.found.query) operand.found.next;
-        value = rw (both, ends) refl;
-        rest =
-            sym (chain_there join sign part text (length text - (k + 1)) before.found operand.found stands at)
-            ∙ sym (chain_less join sign part text k before.found within)
-            ∙ before.rest;
-      }
+  pub goes_on_more : (k : ℕ) (old now mid new : List Step) (next behind : ℕ) (all : Result Read QueryFault) → k < length text
+      → is_byte text next sign ≡ true → IsCompiled (part (next + 1)) now mid behind
+      → ((p q : Query) → Runs old now p → Runs now mid q → Runs old new (join p q))
+      → GoesOn join sign part text k old now next all → GoesOn join sign part text (k + 1) old new behind all
+  goes_on_more k old now mid new next behind all within there right joins before = record {
+    query = join before.query right.query;
+    runs = joins before.query right.query before.runs right.runs;
+    rest =
+        sym (chain_there join sign part text (length text - (k + 1)) (read before.query next) (read right.query behind) there right.is)
+        ∙ sym (chain_less join sign part text k (read before.query next) within)
+        ∙ before.rest;
+  }
 
-  pub goes_on_fault : (k : ℕ) (left : Walked) (fault : QueryFault) (all : Result Read QueryFault) → k < length text
-      → is_byte text left.next sign ≡ true → Err fault ≡ valued v (part (left.next + 1))
-      → GoesOn v join sign part text k left all → Err fault ≡ valued v all
-  goes_on_fault k left fault all within there here before =
-      let operand = fault_of_valued v (part (left.next + 1)) fault here in
-      let place = place_of k left all before in
-      let at : part (before.found.next + 1) ≡ Err fault = rw place operand in
-      let stands : is_byte text before.found.next sign ≡ true = rw place there in
-      let is : all ≡ Err fault =
-      sym before.rest ∙ chain_less join sign part text k before.found within ∙ chain_fault join sign part text (length text - (k + 1)) before.found fault stands at in
-      sym (ap (valued v) is)
+  pub goes_on_fault : (k : ℕ) (old now : List Step) (next : ℕ) (all : Result Read QueryFault) (e : QueryRefusal) → k < length text
+      → is_byte text next sign ≡ true → IsFault (part (next + 1)) e → GoesOn join sign part text k old now next all → IsFault all e
+  goes_on_fault k old now next all e within there here before =
+      fault_then (part (next + 1)) all
+      (λ fault stops.
+      sym before.rest ∙ chain_less join sign part text k (read before.query next) within
+      ∙ chain_fault join sign part text (length text - (k + 1)) (read before.query next) fault there stops) e here
 
-  pub goes_on_none : (k : ℕ) (left : Walked) (all : Result Read QueryFault) → k < length text
-      → is_byte text left.next sign ≡ false → GoesOn v join sign part text k left all → Ok left ≡ valued v all
-  goes_on_none k left all within there before =
-      let stands : is_byte text before.found.next sign ≡ false = rw (place_of k left all before) there in
-      let is : all ≡ Ok before.found =
-      sym before.rest ∙ chain_less join sign part text k before.found within ∙ chain_none join sign part text (length text - (k + 1)) before.found stands in
-      sym (ap (valued v) is ∙ ap Ok before.value)
+  pub goes_on_none : (k : ℕ) (old now : List Step) (next : ℕ) (all : Result Read QueryFault) → k < length text
+      → is_byte text next sign ≡ false → GoesOn join sign part text k old now next all → IsCompiled all old now next
+  goes_on_none k old now next all within there before = record {
+    query = before.query;
+    is =
+        sym before.rest ∙ chain_less join sign part text k (read before.query next) within
+        ∙ chain_none join sign part text (length text - (k + 1)) (read before.query next) there;
+    runs = before.runs;
+  }
 
-  pub goes_on_end : (k : ℕ) (left : Walked) (all : Result Read QueryFault) → length text ≤ k
-      → GoesOn v join sign part text k left all → Ok left ≡ valued v all
-  goes_on_end k left all past before =
+  pub goes_on_end : (k : ℕ) (old now : List Step) (next : ℕ) (all : Result Read QueryFault) → length text ≤ k
+      → GoesOn join sign part text k old now next all → IsCompiled all old now next
+  goes_on_end k old now next all past before =
       let none : length text - k ≡ 0 = omega arith in
-      let is : all ≡ Ok before.found = sym before.rest ∙ chain_end join sign part text (length text - k) before.found none in
-      sym (ap (valued v) is ∙ ap Ok before.value)
+      record {
+        query = before.query;
+        is = sym before.rest ∙ chain_end join sign part text (length text - k) (read before.query next) none;
+        runs = before.runs;
+      }
 
 pub either_first : (inner : Inner) (text : List ℕ) (at : ℕ)
     → either inner text at ≡ result_then (chain Either bar (both inner text) text (length text)) (both inner text at)
@@ -160,24 +154,47 @@ unfolding enclosed
 enclosed_step text zero rule at some = absurd (some refl)
 enclosed_step text (suc room) rule at some = rw sub-one refl
 
-pub value_either : (facts : Facts) (spelling : List ℕ) (p q : Query) → value facts spelling (Either p q) ≡ (value facts spelling p || value facts spelling q)
-unfolding value
-value_either facts spelling p q = refl
+-- ---- what is denied, and what stands in parentheses
 
-pub value_both : (facts : Facts) (spelling : List ℕ) (p q : Query) → value facts spelling (Both p q) ≡ (value facts spelling p && value facts spelling q)
-unfolding value
-value_both facts spelling p q = refl
+module _ (inner : Inner) (text : List ℕ) (at : ℕ) where
+  pub denied_compiled : (old mid new : List Step) (next : ℕ) → is_byte text at exclamation ≡ true → IsCompiled (inner Denied at) old mid next
+      → new ≡ mid ++ Negate ∷ [] → IsCompiled (negation inner text at) old new next
+  unfolding negation
+  denied_compiled old mid new next there here is = record {
+    query = Not here.query;
+    is = rw (there, here.is) refl;
+    runs = runs_not old mid new here.query here.runs is;
+  }
 
-pub denied_valued : (facts : Facts) (spelling : List ℕ) (inner : Inner) (text : List ℕ) (at : ℕ) (w : Walked)
-    → is_byte text at exclamation ≡ true → Ok w ≡ valued (value facts spelling) (inner Denied at)
-    → Ok (walked (not w.holds) w.next) ≡ valued (value facts spelling) (negation inner text at)
-unfolding negation value
-denied_valued facts spelling inner text at w there here =
-    let v = value facts spelling in
-    let r = read_of_valued v (inner Denied at) w here in
-    let holds : v r.found.query ≡ w.holds = ap (λ (x : Walked). x.holds) r.value in
-    let next : r.found.next ≡ w.next = ap (λ (x : Walked). x.next) r.value in
-    rw (there, r.is, holds, next) refl
+  pub denied_fault : (e : QueryRefusal) → is_byte text at exclamation ≡ true → IsFault (inner Denied at) e → IsFault (negation inner text at) e
+  unfolding negation
+  denied_fault e there here = fault_then (inner Denied at) (negation inner text at) (λ fault stops. rw (there, stops) refl) e here
+
+  pub whole_compiled : (old now : List Step) (next end : ℕ) → is_byte text at exclamation ≡ false → is_byte text at opening ≡ true
+      → IsCompiled (inner Whole at) old now next → ((query : Query) → closed text (read query next) ≡ Ok (read query end))
+      → IsCompiled (negation inner text at) old now end
+  unfolding negation
+  whole_compiled old now next end other there here closes = record {
+    query = here.query;
+    is = rw (other, there, here.is) (closes here.query);
+    runs = here.runs;
+  }
+
+  pub whole_fault : (e : QueryRefusal) → is_byte text at exclamation ≡ false → is_byte text at opening ≡ true → IsFault (inner Whole at) e
+      → IsFault (negation inner text at) e
+  unfolding negation
+  whole_fault e other there here = fault_then (inner Whole at) (negation inner text at) (λ fault stops. rw (other, there, stops) refl) e here
+
+  pub closed_fault : (old now : List Step) (next : ℕ) (e : QueryRefusal) → is_byte text at exclamation ≡ false → is_byte text at opening ≡ true
+      → IsCompiled (inner Whole at) old now next → ((query : Query) → IsFault (closed text (read query next)) e)
+      → IsFault (negation inner text at) e
+  unfolding negation
+  closed_fault old now next e other there here stops =
+      fault_then (closed text (read here.query next)) (negation inner text at) (λ fault is. rw (other, there, here.is) is) e (stops here.query)
+
+  pub negation_atom : is_byte text at exclamation ≡ false → is_byte text at opening ≡ false → negation inner text at ≡ atom at (drop at text)
+  unfolding negation
+  negation_atom other none = rw (other, none) refl
 
 -- ---- the whole word
 

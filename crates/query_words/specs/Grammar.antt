@@ -61,8 +61,3 @@ IsRead text (Err (Deep n)) =
     × (GoesOn depth_limit (take (n + 1) text) → ⊥)
     × GoesOn (depth_limit + 1) (take (n + 1) text)
     × IsNone text
-
--- The answer for a word, by the grammar alone: a query that derives it has this value, or its first fault.
-abbrev pub IsDecided : List ℕ → (Query → Bool) → Result Bool QueryFault → Type 0
-IsDecided text v (Ok b) = (q : Query) × Derives Alternatives depth_limit text q × (b ≡ v q)
-IsDecided text v (Err fault) = IsRead text (Err fault)

@@ -8,5 +8,6 @@ pub mod Grammar
 pub mod Laws
 -- What inner functions promise each other.
 pub mod Walk
+pub mod Steps
 pub mod PlaceMarks
 pub mod Telling

@@ -19,3 +19,7 @@ with_byte c byte here behind next = if c == star then next || here else ((byte =
 -- a byte of a pattern that stands for itself
 abbrev pub is_kept : ℕ → Bool
 is_kept c = not (c == star)
+
+-- two patterns match the same texts
+abbrev pub MatchAlike : List ℕ → List ℕ → Type 0
+MatchAlike p q = (text : List ℕ) → matches p text ≡ matches q text

@@ -1,15 +1,14 @@
 // The bytes and the atoms of a query.
-ghost use Rattle.std.specs.Prelude.{◌≡◌, ◌<◌, ◌≤◌, ◌+◌, ◌^◌, IfOk, IsTrue, codes, length};
+ghost use Rattle.std.specs.Prelude.{◌≡◌, ◌<◌, ◌≤◌, ◌+◌, ◌^◌, IfErr, IfOk, IsTrue, codes, length};
 ghost use Rattle.std.specs.List.{prefix_len, take_while};
 ghost use Rattle.std.specs.Str.{bytes_eq};
-ghost use Rattle.query_words.specs.Queries.{value};
 ghost use Rattle.query_words.specs.Reading.{atom, attribute_read, begins_name, is_byte, is_of_pattern, is_small, pattern_read, word_of};
-ghost use Rattle.query_words.specs.Walk.{valued};
+ghost use Rattle.query_words.specs.Steps.{IsCompiled, IsFault};
 
-use crate::attributes::{Attribute, Facts, attribute_of};
-use crate::faults::QueryFault;
-use crate::patterns::matches;
-use crate::walk::Walked;
+use crate::attributes::{Attribute, attribute_of};
+use crate::faults::{QueryFault, QueryRefusal};
+use crate::steps::{Step, push_step, spelled};
+use std::alloc::Global;
 
 /// Whether this byte stands at a place.
 pub fn is_byte(text: &[u8], at: usize, byte: u8) -> bool
@@ -79,23 +78,21 @@ fn begins_name(rest: &[u8]) -> bool
 
 // What a spelling is held against, at the place of its first byte.
 fn pattern_read(
+    alloc: Global,
     at: usize,
     pattern: &[u8],
-    facts: &Facts,
-    spelling: &[u8],
-    places: &mut [bool],
-) -> Result<Walked, QueryFault>
+    steps: &mut Vec<Step>,
+) -> Result<usize, QueryRefusal>
     requires few { at + length pattern.now < 2 ^ 32 }
-    requires room { length pattern.now < length places.old }
-    ensures { result ≡ valued (value facts.now spelling.now) (pattern_read at pattern.now) }
+    ensures answer { IfOk result (IsCompiled (pattern_read at pattern.now) steps.old.items steps.new.items) }
+    ensures refused { IfErr result (IsFault (pattern_read at pattern.now)) }
+    ensures within { IfOk result (λ next. next ≡ at + length pattern.now) }
 {
     if pattern.is_empty() {
-        return Err(QueryFault::Bad { at: at as u32 });
+        return Err(QueryRefusal::Fault(QueryFault::Bad { at: at as u32 }));
     }
-    Ok(Walked {
-        holds: matches(pattern, spelling, places),
-        next: at + pattern.len(),
-    })
+    push_step(steps, spelled(alloc, pattern)?)?;
+    Ok(at + pattern.len())
 }
 
 // What an attribute says, at the place of its first letter.
@@ -103,38 +100,37 @@ fn attribute_read(
     at: usize,
     word: &[u8],
     found: Option<Attribute>,
-    facts: &Facts,
-    spelling: &[u8],
-) -> Result<Walked, QueryFault>
+    steps: &mut Vec<Step>,
+) -> Result<usize, QueryRefusal>
     requires few { at + length word.now < 2 ^ 32 }
-    ensures { result ≡ valued (value facts.now spelling.now) (attribute_read at word.now found) }
+    ensures answer { IfOk result (IsCompiled (attribute_read at word.now found) steps.old.items steps.new.items) }
+    ensures refused { IfErr result (IsFault (attribute_read at word.now found)) }
+    ensures within { IfOk result (λ next. next ≡ at + length word.now) }
 {
-    let _length = spelling.len();
     match found {
-        Some(attribute) => Ok(Walked {
-            holds: facts.has(attribute),
-            next: at + word.len(),
-        }),
-        None => Err(QueryFault::Bad { at: at as u32 }),
+        Some(attribute) => {
+            push_step(steps, Step::Has(attribute))?;
+            Ok(at + word.len())
+        }
+        None => Err(QueryRefusal::Fault(QueryFault::Bad { at: at as u32 })),
     }
 }
 
-/// What the atom says that begins at a place, where this rest of the query begins.
+/// The step of the atom that begins at a place, where this rest of the query begins; and the place behind it.
 pub fn atom(
+    alloc: Global,
     at: usize,
     rest: &[u8],
-    facts: &Facts,
-    spelling: &[u8],
-    places: &mut [bool],
-) -> Result<Walked, QueryFault>
+    steps: &mut Vec<Step>,
+) -> Result<usize, QueryRefusal>
     requires few { at + length rest.now < 2 ^ 32 }
-    requires room { length rest.now < length places.old }
-    ensures answer { result ≡ valued (value facts.now spelling.now) (atom at rest.now) }
-    ensures within { IfOk result (λ w. w.next ≤ at + length rest.now) }
+    ensures answer { IfOk result (IsCompiled (atom at rest.now) steps.old.items steps.new.items) }
+    ensures refused { IfErr result (IsFault (atom at rest.now)) }
+    ensures within { IfOk result (λ next. next ≤ at + length rest.now) }
 {
     if begins_name(rest) {
-        return pattern_read(at + 5, pattern_of(&rest[5..]), facts, spelling, places);
+        return pattern_read(alloc, at + 5, pattern_of(&rest[5..]), steps);
     }
     let word = word_of(rest);
-    attribute_read(at, word, attribute_of(word), facts, spelling)
+    attribute_read(at, word, attribute_of(word), steps)
 }

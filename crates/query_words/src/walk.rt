@@ -1,19 +1,13 @@
-// Reading and valuing at once, by recursion over the query: as deep as `!` and `(` are open, and no deeper.
-ghost use Rattle.std.specs.Prelude.{◌≡◌, ◌<◌, ◌≤◌, ◌^◌, ◌&&◌, ◌||◌, IfOk, length};
-ghost use Rattle.query_words.specs.Queries.{value};
-ghost use Rattle.query_words.specs.Reading.{both, either, enclosed, negation};
-ghost use Rattle.query_words.specs.Walk.{close, valued};
+// Reading and compiling at once, by recursion over the query: as deep as `!` and `(` are open, and no deeper.
+ghost use Rattle.std.specs.Prelude.{Ok, ◌≡◌, ◌<◌, ◌≤◌, ◌^◌, IfErr, IfOk, length};
+ghost use Rattle.query_words.specs.Queries.{Query};
+ghost use Rattle.query_words.specs.Reading.{both, closed, either, enclosed, negation, read};
+ghost use Rattle.query_words.specs.Steps.{IsCompiled, IsFault};
 
 use crate::atoms::{atom, is_byte};
-use crate::attributes::Facts;
-use crate::faults::QueryFault;
-
-/// Whether a part of a query holds, and the place behind the part.
-#[derive(Clone, Copy)]
-pub struct Walked {
-    pub holds: bool,
-    pub next: usize,
-}
+use crate::faults::{QueryFault, QueryRefusal};
+use crate::steps::{Step, push_step};
+use std::alloc::Global;
 
 /// What stands behind an opening byte: a whole query behind `(`, what is denied behind `!`.
 #[derive(Clone, Copy)]
@@ -23,149 +17,126 @@ pub enum Rule {
 }
 
 #[cycle(walk)]
-/// What is joined by `|`, where so many more `!` and `(` may be open.
+/// What is joined by `|`, where so many more `!` and `(` may be open: its steps behind others, and the place behind it.
 pub fn either(
+    alloc: Global,
     text: &[u8],
     room: usize,
     at: usize,
-    facts: &Facts,
-    spelling: &[u8],
-    places: &mut [bool],
-) -> Result<Walked, QueryFault>
+    steps: &mut Vec<Step>,
+) -> Result<usize, QueryRefusal>
     requires few { length text.now < 2 ^ 32 }
     requires inside { at ≤ length text.now }
-    requires room { length text.now < length places.old }
-    ensures answer { result ≡ valued (value facts.now spelling.now) (either (enclosed text.now room) text.now at) }
-    ensures within { IfOk result (λ w. w.next ≤ length text.now) }
+    ensures answer { IfOk result
+        (IsCompiled (either (enclosed text.now room) text.now at) steps.old.items steps.new.items) }
+    ensures refused { IfErr result (IsFault (either (enclosed text.now room) text.now at)) }
+    ensures within { IfOk result (λ next. next ≤ length text.now) }
 {
-    let mut left = both(text, room, at, facts, spelling, places)?;
+    let mut next = both(alloc, text, room, at, steps)?;
     for _sign in 0..text.len() {
-        if !is_byte(text, left.next, b'|') {
-            return Ok(left);
+        if !is_byte(text, next, b'|') {
+            return Ok(next);
         }
-        let right = both(text, room, left.next + 1, facts, spelling, places)?;
-        left = Walked {
-            holds: either_of(left.holds, right.holds),
-            next: right.next,
-        };
+        let end = both(alloc, text, room, next + 1, steps)?;
+        push_step(steps, Step::Or)?;
+        next = end;
     }
-    Ok(left)
+    Ok(next)
 }
 
 #[cycle(walk)]
 // What is joined by `&`.
 fn both(
+    alloc: Global,
     text: &[u8],
     room: usize,
     at: usize,
-    facts: &Facts,
-    spelling: &[u8],
-    places: &mut [bool],
-) -> Result<Walked, QueryFault>
+    steps: &mut Vec<Step>,
+) -> Result<usize, QueryRefusal>
     requires few { length text.now < 2 ^ 32 }
     requires inside { at ≤ length text.now }
-    requires room { length text.now < length places.old }
-    ensures answer { result ≡ valued (value facts.now spelling.now) (both (enclosed text.now room) text.now at) }
-    ensures within { IfOk result (λ w. w.next ≤ length text.now) }
+    ensures answer { IfOk result
+        (IsCompiled (both (enclosed text.now room) text.now at) steps.old.items steps.new.items) }
+    ensures refused { IfErr result (IsFault (both (enclosed text.now room) text.now at)) }
+    ensures within { IfOk result (λ next. next ≤ length text.now) }
 {
-    let mut left = negation(text, room, at, facts, spelling, places)?;
+    let mut next = negation(alloc, text, room, at, steps)?;
     for _sign in 0..text.len() {
-        if !is_byte(text, left.next, b'&') {
-            return Ok(left);
+        if !is_byte(text, next, b'&') {
+            return Ok(next);
         }
-        let right = negation(text, room, left.next + 1, facts, spelling, places)?;
-        left = Walked {
-            holds: both_of(left.holds, right.holds),
-            next: right.next,
-        };
+        let end = negation(alloc, text, room, next + 1, steps)?;
+        push_step(steps, Step::And)?;
+        next = end;
     }
-    Ok(left)
+    Ok(next)
 }
 
 #[cycle(walk)]
 #[tactic(auto, unfolding(crate::specs::Reading::negation))]
 // What is denied, what stands in parentheses, or an atom.
 fn negation(
+    alloc: Global,
     text: &[u8],
     room: usize,
     at: usize,
-    facts: &Facts,
-    spelling: &[u8],
-    places: &mut [bool],
-) -> Result<Walked, QueryFault>
+    steps: &mut Vec<Step>,
+) -> Result<usize, QueryRefusal>
     requires few { length text.now < 2 ^ 32 }
     requires inside { at ≤ length text.now }
-    requires room { length text.now < length places.old }
-    ensures answer { result ≡ valued (value facts.now spelling.now) (negation (enclosed text.now room) text.now at) }
-    ensures within { IfOk result (λ w. w.next ≤ length text.now) }
+    ensures answer { IfOk result
+        (IsCompiled (negation (enclosed text.now room) text.now at) steps.old.items steps.new.items) }
+    ensures refused { IfErr result (IsFault (negation (enclosed text.now room) text.now at)) }
+    ensures within { IfOk result (λ next. next ≤ length text.now) }
 {
     if is_byte(text, at, b'!') {
-        let inner = enclosed(text, room, Rule::Denied, at, facts, spelling, places)?;
-        return Ok(Walked {
-            holds: !inner.holds,
-            next: inner.next,
-        });
+        let next = enclosed(alloc, text, room, Rule::Denied, at, steps)?;
+        push_step(steps, Step::Negate)?;
+        return Ok(next);
     }
     if is_byte(text, at, b'(') {
-        let inner = enclosed(text, room, Rule::Whole, at, facts, spelling, places)?;
-        return closed(text, inner);
+        let next = enclosed(alloc, text, room, Rule::Whole, at, steps)?;
+        return closed(text, next);
     }
-    atom(at, &text[at..], facts, spelling, places)
+    atom(alloc, at, &text[at..], steps)
 }
 
 #[cycle(walk)]
 // What stands behind the opening byte at a place.
 fn enclosed(
+    alloc: Global,
     text: &[u8],
     room: usize,
     rule: Rule,
     at: usize,
-    facts: &Facts,
-    spelling: &[u8],
-    places: &mut [bool],
-) -> Result<Walked, QueryFault>
+    steps: &mut Vec<Step>,
+) -> Result<usize, QueryRefusal>
     requires few { length text.now < 2 ^ 32 }
     requires inside { at < length text.now }
-    requires room { length text.now < length places.old }
-    ensures answer { result ≡ valued (value facts.now spelling.now) (enclosed text.now room rule at) }
-    ensures within { IfOk result (λ w. w.next ≤ length text.now) }
+    ensures answer { IfOk result (IsCompiled (enclosed text.now room rule at) steps.old.items steps.new.items) }
+    ensures refused { IfErr result (IsFault (enclosed text.now room rule at)) }
+    ensures within { IfOk result (λ next. next ≤ length text.now) }
 {
     if room == 0 {
-        return Err(QueryFault::Deep { at: at as u32 });
+        return Err(QueryRefusal::Fault(QueryFault::Deep { at: at as u32 }));
     }
     match rule {
-        Rule::Whole => either(text, room - 1, at + 1, facts, spelling, places),
-        Rule::Denied => negation(text, room - 1, at + 1, facts, spelling, places),
+        Rule::Whole => either(alloc, text, room - 1, at + 1, steps),
+        Rule::Denied => negation(alloc, text, room - 1, at + 1, steps),
     }
 }
 
-// The `)` behind a query.
-fn closed(text: &[u8], inner: Walked) -> Result<Walked, QueryFault>
+// The place behind the `)` behind a query.
+fn closed(text: &[u8], next: usize) -> Result<usize, QueryRefusal>
     requires few { length text.now < 2 ^ 32 }
-    requires inside { inner.next ≤ length text.now }
-    ensures answer { result ≡ close text.now inner }
-    ensures within { IfOk result (λ w. w.next ≤ length text.now) }
+    requires inside { next ≤ length text.now }
+    ensures answer { IfOk result (λ end. (query : Query) → closed text.now (read query next) ≡ Ok (read query end)) }
+    ensures refused { IfErr result (λ e. (query : Query) → IsFault (closed text.now (read query next)) e) }
+    ensures within { IfOk result (λ end. end ≤ length text.now) }
 {
-    if is_byte(text, inner.next, b')') {
-        Ok(Walked {
-            holds: inner.holds,
-            next: inner.next + 1,
-        })
+    if is_byte(text, next, b')') {
+        Ok(next + 1)
     } else {
-        Err(QueryFault::Bad {
-            at: inner.next as u32,
-        })
+        Err(QueryRefusal::Fault(QueryFault::Bad { at: next as u32 }))
     }
-}
-
-fn either_of(first: bool, second: bool) -> bool
-    ensures { result ≡ (first || second) }
-{
-    first || second
-}
-
-fn both_of(first: bool, second: bool) -> bool
-    ensures { result ≡ (first && second) }
-{
-    first && second
 }

@@ -24,8 +24,9 @@ use Rattle.include_tree.specs.PseudoFiles.{is_pseudo}
 use Rattle.unit_steps.specs.State.{Context, context, State, Outcome}
 use Rattle.source_files.specs.Opening.{Reader}
 use Rattle.include_tree.specs.Preprocessed.{Preprocessed, preprocessed, preprocessed_by}
-use Rattle.include_tree.specs.Unit.{first_state, outer_file, main_file, unit_outcome}
+use Rattle.include_tree.specs.Unit.{pseudo_path, first_state, outer_file, main_file, unit_outcome}
 use Rattle.include_tree.specs.Walk.{file_items}
+use Rattle.include_tree.proofs.DefinesLemmas.{with_defines_has}
 use Rattle.include_tree.proofs.OutcomeLemmas.{onward_done}
 use Rattle.include_tree.proofs.StayLemmas.{IsStable, Stays, open_file_stays}
 use Rattle.include_tree.proofs.StayingWalk.{files_stay}
@@ -60,8 +61,9 @@ module _ (source : Source) (J : Table → Type 0) (K : List ℕ → Type 0) (rul
   unit_stays limits reader number unit before own h =
       let ctx : Context = context source reader unit limits before.toks in
       let s : State = first_state limits number unit before.table in
-      let first = rules.made before.table (defines_path number) (defines_of unit) h in
-      onward_done (Stays {A = List Token} J) (Stays {A = List Token} J) (outer_file ctx (defines_path number) s) _ (outer_stays reader unit limits before.toks (defines_path number) s first)
+      let first = with_defines_has J number unit before.table h (rules.made before.table (defines_path number) (defines_of unit) h) in
+      let pseudo : List ℕ = pseudo_path number unit before.table in
+      onward_done (Stays {A = List Token} J) (Stays {A = List Token} J) (outer_file ctx pseudo s) _ (outer_stays reader unit limits before.toks pseudo s first)
       (λ toks t g. onward_done (Stays {A = List Token} J) (Stays {A = List Token} J) (main_file ctx unit.path t) _
       (outer_stays reader unit limits before.toks unit.path (record t { table = asked source unit.path t.table }) (rules.main t.table unit.path own g)) (λ more u f. f))
 

@@ -1,5 +1,5 @@
 -- Names of which a unit tells get one new spelling each.
-use Rattle.std.proofs.Common.{◌≡◌, ℕ, zero, suc, ◌&&◌, Bool, true, codes, List, [], ◌∷◌, ◌++◌, Option, Some, None, inl, inr, refl, sym, ap, subst, ◌∙◌}
+use Rattle.std.proofs.Common.{◌≡◌, ℕ, zero, suc, ◌&&◌, ◌||◌, Bool, true, codes, List, [], ◌∷◌, ◌++◌, Option, Some, None, inl, inr, refl, sym, ap, subst, ◌∙◌}
 use Rattle.std.specs.Prelude.{find}
 use Rattle.std.specs.List.{flat_map}
 use Rattle.std.specs.Option.{option_map_or}
@@ -55,14 +55,22 @@ pub file_reserved : is_reserved_text (codes "__FILE__") ≡ true
 unfolding is_reserved_text
 file_reserved = refl
 
-first_text : (P : List ℕ → Type 0) (word : List ℕ) → is_first_name word ≡ true → P (codes "__LINE__") → P (codes "__FILE__") → P word
-first_text P word is line file = elim (or_cases (bytes_eq word (codes "__LINE__")) (bytes_eq word (codes "__FILE__")) is) [
-  | inl same ↦ subst P (sym (bytes_eq-equal word (codes "__LINE__") same)) line
-  | inr same ↦ subst P (sym (bytes_eq-equal word (codes "__FILE__") same)) file
-]
+pub counter_reserved : is_reserved_text (codes "__COUNTER__") ≡ true
+unfolding is_reserved_text
+counter_reserved = refl
+
+first_text : (P : List ℕ → Type 0) (word : List ℕ) → is_first_name word ≡ true → P (codes "__LINE__") → P (codes "__FILE__") → P (codes "__COUNTER__") → P word
+first_text P word is line file counter =
+    elim (or_cases (bytes_eq word (codes "__LINE__")) (bytes_eq word (codes "__FILE__") || bytes_eq word (codes "__COUNTER__")) is) [
+      | inl same ↦ subst P (sym (bytes_eq-equal word (codes "__LINE__") same)) line
+      | inr more ↦ elim (or_cases (bytes_eq word (codes "__FILE__")) (bytes_eq word (codes "__COUNTER__")) more) [
+        | inl same ↦ subst P (sym (bytes_eq-equal word (codes "__FILE__") same)) file
+        | inr same ↦ subst P (sym (bytes_eq-equal word (codes "__COUNTER__") same)) counter
+      ]
+    ]
 
 pub first_reserved : (word : List ℕ) → is_first_name word ≡ true → is_reserved_text word ≡ true
-first_reserved word is = first_text (λ w. is_reserved_text w ≡ true) word is line_reserved file_reserved
+first_reserved word is = first_text (λ w. is_reserved_text w ≡ true) word is line_reserved file_reserved counter_reserved
 
 line_kind : (k : Kind) → fits k (codes "__LINE__") ≡ true → is_identifier k ≡ true
 unfolding is_punctuator_text
@@ -84,10 +92,20 @@ file_kind Punct h = absurd (cc)
 file_kind Header h = absurd (cc)
 file_kind Other h = absurd (cc)
 
+counter_kind : (k : Kind) → fits k (codes "__COUNTER__") ≡ true → is_identifier k ≡ true
+unfolding is_punctuator_text
+counter_kind Ident h = refl
+counter_kind Number h = absurd (cc)
+counter_kind Char h = absurd (cc)
+counter_kind Str h = absurd (cc)
+counter_kind Punct h = absurd (cc)
+counter_kind Header h = absurd (cc)
+counter_kind Other h = absurd (cc)
+
 first_named : (t : Token) → is_spelled t ≡ true → is_first_name t.text ≡ true → is_name t ≡ true
 first_named t spelled is =
     let fit = spelled_fits t spelled in
-    first_text (λ w. fits t.kind w ≡ true → is_identifier t.kind ≡ true) t.text is (line_kind t.kind) (file_kind t.kind) fit
+    first_text (λ w. fits t.kind w ≡ true → is_identifier t.kind ≡ true) t.text is (line_kind t.kind) (file_kind t.kind) (counter_kind t.kind) fit
 
 -- ---- one unit
 

@@ -57,7 +57,7 @@ use Rattle.rename_meaning.specs.KeptUnits.{change_by}
 use Rattle.rename_meaning.specs.Limits.{AreWithinLimits}
 use Rattle.rename_meaning.specs.ToldNames.{KeepsToldNames}
 use Rattle.rename_meaning.proofs.KeptFileLemmas.{files_kept}
-use Rattle.rename_meaning.proofs.KeptNameLemmas.{line_reserved, file_reserved, told_traced, told_names_are_kept}
+use Rattle.rename_meaning.proofs.KeptNameLemmas.{line_reserved, file_reserved, counter_reserved, told_traced, told_names_are_kept}
 use Rattle.renamed.specs.Renamed.{moved_in, move_to, trace_from}
 
 -- ---- where the name of a macro stands
@@ -133,6 +133,7 @@ module _ (a : Analysed) (members : List Part) (name : List ℕ) (h : IsAllowed a
     apart = kept.apart;
     line = record { stays = names.first (codes "__LINE__") refl; alone = λ t occurs named same. kept.alone t (codes "__LINE__") line_reserved occurs named same };
     file = record { stays = names.first (codes "__FILE__") refl; alone = λ t occurs named same. kept.alone t (codes "__FILE__") file_reserved occurs named same };
+    counter = record { stays = names.first (codes "__COUNTER__") refl; alone = λ t occurs named same. kept.alone t (codes "__COUNTER__") counter_reserved occurs named same };
     signs = kept.signs;
     others = kept.others;
     untraced = unedited.untraced;
@@ -162,6 +163,7 @@ module _ (a : Analysed) (members : List Part) (name : List ℕ) (h : IsAllowed a
   happened_kept run before (expansion.Replaced t m more) at =
       (macro_kept t (told_by (Happened run before (expansion.Replaced t m more)) (named_event kind.Replaced t (origin_at m 0) (before_in run before more)) t at (0, refl) refl), tt)
   happened_kept run before (expansion.Linked x y) at = (tt, tt)
+  happened_kept run before (expansion.Counted z) at = (tt, tt)
   happened_kept run before (expansion.Stringized toks s) at = (tokens_are_made_anew a members name h u d i o run before (expansion.Stringized toks s) at, tt)
   happened_kept run before (expansion.Pasted x y z) at =
       let pasted : IsPasted a.value z = record { unit = u; there = i; pasted = pasted_in run before x y z at } in (
@@ -252,6 +254,7 @@ module _ (a : Analysed) (members : List Part) (name : List ℕ) (h : IsAllowed a
   move_note (Happened run before (expansion.Linked x y)) at = tt
   move_note (Happened run before (expansion.Stringized toks s)) at = tt
   move_note (Happened run before (expansion.Pasted x y z)) at = tt
+  move_note (Happened run before (expansion.Counted z)) at = tt
   move_note (Defined m before) at = tt
   move_note (Undefined t before) at = tt
   move_note (Tested t before) at = tt

@@ -61,7 +61,7 @@ use Rattle.renamed.specs.Renamed.{spell_from, moved_in, move_to, trace_from}
 use Rattle.std.specs.Fmt.{decimal}
 use Rattle.std.proofs.lemmas.List.{length-replicate}
 use Rattle.lexer.specs.Tokens.{tokens_of}
-use Rattle.macro_body.specs.Substitution.{line_number, path_string, path_text}
+use Rattle.macro_body.specs.Substitution.{number_token, line_number, path_string, path_text}
 use Rattle.macro_body.proofs.PredefinedLemmas.{length-digit_origins as digits_length}
 use Rattle.source_files.specs.Files.{Table, SourceFile}
 use Rattle.source_files.specs.Sources.{source_at}
@@ -72,7 +72,7 @@ use Rattle.expansion_laws.proofs.StringLemmas.{string_long}
 use Rattle.expansion_laws.proofs.MadeLemmas.{fits_name}
 use Rattle.unit_laws.proofs.PartLemmas.{from_files}
 use Rattle.unit_laws.proofs.SpellingLemmas.{files_are_spelled}
-use Rattle.unit_laws.proofs.TextLemmas.{line_event, answer_among}
+use Rattle.unit_laws.proofs.TextLemmas.{line_event, number_among, answer_among}
 use Rattle.rename_meaning.proofs.ApartLemmas.{file_told}
 use Rattle.rename_meaning.proofs.PieceLemmas.{IsBuilt, fine_whole, whole_free, whole_both, whole_words, behind_whole, string_whole, each_built, closes_on, begins_there}
 use Rattle.unit_laws.specs.UnitLinks.{IsIn as IsInList}
@@ -266,6 +266,10 @@ module _ (a : Analysed) (members : List Part) (name : List ℕ) (h : IsAllowed a
           let e = line_event u.text notes toks name2 run before more is_text word told in
           number_built (line_number name2) (line_in a.value u.text notes toks table is_text grown brought e.0 name2 e.1.0 e.1.1)
           (digits_length (8 * name2.line) (length (decimal name2.line))) refl;
+      numbers = λ name2 n run before here low told.
+          number_built (number_token name2 n)
+          (answer_in a.value u.text notes toks table is_text grown brought (number_token name2 n) (number_among u.text notes toks (number_token name2 n) run before is_text told))
+          (digits_length (8 * n) (length (decimal n))) refl;
       answers = λ word b here told. answer_built word b (answer_in a.value u.text notes toks table is_text grown brought (answer_for word b) (answer_among u.text notes toks (answer_for word b) is_text told));
       paths = λ path name2 here. free_built (path_string path name2) (length-replicate (length (path_text path)) None) (nothing_from (length (path_text path)));
       strings = λ name2 gap ts s here all is.
@@ -315,6 +319,7 @@ module _ (a : Analysed) (members : List Part) (name : List ℕ) (h : IsAllowed a
       → HappenedSo (Traced a.value) note → HappenedSo (IsBuilt members) note → IsMadeAnew (renaming a.value members name u.text) note
   note_anew d o run before (expansion.Replaced name2 m more) j so built = tt
   note_anew d o run before (expansion.Linked x y) j so built = tt
+  note_anew d o run before (expansion.Counted z) j so built = tt
   note_anew d o run before (expansion.Stringized toks s) j so built = string_anew toks s built.0 so.1
   note_anew d o run before (expansion.Pasted x y z) j so built =
       let there : IsInList (flat_map pasted_of d.notes) z = flat_in pasted_of d.notes (Happened run before (expansion.Pasted x y z)) z j.0 j.1 (0, refl) in

@@ -10,7 +10,7 @@ use Rattle.macro_body.specs.Below.paste_origin.Strings.{string_text, string_orig
 use Rattle.line_shape.specs.Signs.{is_identifier, is_punctuator}
 use Rattle.macro_body.specs.Notes as expansion
 use Rattle.unit_steps.specs.Below.macro_expand.Renaming.{occurs}
-use Rattle.macro_body.specs.Substitution.{put_in, line_number, path_string}
+use Rattle.macro_body.specs.Substitution.{put_in, number_token, line_number, path_string}
 use Rattle.unit_steps.specs.Conditions.{answer_for}
 use Rattle.source_files.specs.Files.{SourceFile, Table}
 use Rattle.source_files.specs.Tables.{IsGrown}
@@ -65,6 +65,7 @@ module _ (a : AnalysisValue) (u : UnitAnalysis) (i : In u a.units) (notes : List
     placed = λ name t gap here h. h;
     items = λ number k evaluated before file item is at told. from_files (Occurs a) table kept_occur number k evaluated file item is at;
     lines = λ name run before more here spelled told. other_occurs a Number (line_number name).origins (line_number name).text refl refl;
+    numbers = λ name n run before here low told. other_occurs a Number (number_token name n).origins (number_token name n).text refl refl;
     answers = λ word b here told. other_occurs a Number (answer_for word b).origins (answer_for word b).text refl refl;
     paths = λ path name here. other_occurs a Str (path_string path name).origins (path_string path name).text refl refl;
     strings = λ name gap ts s here all is.

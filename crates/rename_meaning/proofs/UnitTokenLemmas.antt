@@ -16,7 +16,7 @@ use Rattle.macro_body.specs.Below.paste_origin.Strings.{spellings_of, all_origin
 use Rattle.line_shape.specs.Signs.{is_name}
 use Rattle.macro_body.specs.Notes as expansion
 use Rattle.unit_steps.specs.Below.macro_expand.Renaming.{Renaming, occurs, spelled}
-use Rattle.macro_body.specs.Substitution.{put_in, line_number, path_string, path_text}
+use Rattle.macro_body.specs.Substitution.{put_in, number_token, line_number, path_string, path_text}
 use Rattle.macro_body.proofs.PredefinedLemmas.{length-digit_origins as digits_length}
 use Rattle.unit_steps.specs.Conditions.{answer_for}
 use Rattle.source_files.specs.Files.{SourceFile, Table}
@@ -138,6 +138,11 @@ module _ (a : Analysed) (members : List Part) (name : List ℕ) (r : Renaming) (
           each = digits_length (8 * from.line) (length (decimal from.line));
           occurring = other_occurs a.value Number (line_number from).origins (line_number from).text refl refl;
           stays = λ other. inl (keeps.numbers (8 * from.line) (length (decimal from.line)) (line_number from).text).0;
+        };
+        numbers = λ from n run before here low told. record {
+          each = digits_length (8 * n) (length (decimal n));
+          occurring = other_occurs a.value Number (number_token from n).origins (number_token from n).text refl refl;
+          stays = λ other. inl (keeps.numbers (8 * n) (length (decimal n)) (number_token from n).text).0;
         };
         answers = λ word b here told. record {
           each = answer_each word b;

@@ -7,7 +7,8 @@ pub fn units_occur()
     ensures { UnitsOccur }
 {}
 
-/// Each name of which a unit tells gets the new spelling of the macros of its spelling; `__LINE__` and `__FILE__` stay.
+/// Each name of which a unit tells gets the new spelling of the macros of its spelling; `__LINE__`, `__FILE__` and
+/// `__COUNTER__` stay.
 pub fn told_names_are_kept()
     ensures { ToldNamesAreKept }
 {}

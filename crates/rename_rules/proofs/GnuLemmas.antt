@@ -30,8 +30,9 @@ use Rattle.offences.specs.First.{standing, FirstThen}
 use Rattle.offences.specs.Tokens.{holds_member, member_of}
 use Rattle.offences.proofs.FirstLemmas.{then_none, then_both, then_all}
 use Rattle.rename_rules.proofs.UnitLemmas.{unit_next}
+use Rattle.rename_rules.proofs.QuietLemmas.{none_named}
 use Rattle.rename_rules.specs.GnuOffences.{failing_by, failing_places, is_kept, has_gnu, word_place, is_named, joined, text_toks, text_place, told_offences, unit_offences, gnu_offences, symbols, symbols_in}
-use Rattle.rename_rules.specs.GnuTexts.{symbol_in, idle, word_place_in, at_place, text_place_in, told_in, HaveTexts, AddTexts}
+use Rattle.rename_rules.specs.GnuTexts.{symbol_in, word_place_in, at_place, text_place_in, told_in, may_be_named, AreQuiet, NoneIsFree, HaveTexts, AddTexts}
 use Rattle.rename_rules.specs.GnuUnits.{FailsIn, IsAgainstUnit}
 use Rattle.rename_rules.specs.Tokens.{start_of, starts_in}
 
@@ -147,39 +148,39 @@ module _ (a : AnalysisValue) (members : List Part) (name : List ℕ) where
         ap (λ (f : Adjacent → List Pos). standing cause.Reserved (flat_map (word_place members u) listed.places) ++ standing cause.AssemblerText (flat_map f listed.texts))
         (λ i x. text_same x i)
 
-    -- no word holds a member, and the assembler knows nothing of the class
-    quiet_word : list_any (holds_member members) u.text.toks ≡ false → (k : ℕ) → word_place members u k ≡ []
-    quiet_word none k = by (is_some (entity_at u.bound.names k)) (slice_get u.text.toks k) refl
+    -- each token that holds a member denotes something, and no text has a name of the class
+    quiet_word : NoneIsFree members u.bound.names u.text.toks → (k : ℕ) → word_place members u k ≡ []
+    quiet_word none k = by (entity_at u.bound.names k) (slice_get u.text.toks k) (none k)
       where
-        at_token : (o : Option Token) → slice_get u.text.toks k ≡ o → option_map_or (starts_in members) o [] ≡ []
-        at_token None e = refl
-        at_token (Some t) e = no_start t (none_there (holds_member members) u.text.toks none k t e)
+        by : (e : Option ℕ) (o : Option Token) → option_map_or (λ (t : Token). is_none e && holds_member members t) o false ≡ false
+            → cond (is_some e) [] (option_map_or (starts_in members) o []) ≡ []
+        by (Some entity) o free = refl
+        by None None free = refl
+        by None (Some t) free = no_start t free
 
-        by : (b : Bool) (o : Option Token) → slice_get u.text.toks k ≡ o → cond b [] (option_map_or (starts_in members) o []) ≡ []
-        by true o e = refl
-        by false o e = at_token o e
+    quiet_text : may_be_named members name olds u.text.toks ≡ false → (x : Adjacent) → text_place members name texts u x ≡ []
+    quiet_text none x = sym (text_same x) ∙ ap (λ (b : Bool). cond b (at_place u.text.toks x.from) []) (none_named members name u.text.toks olds none x)
 
-    quiet_text : olds ≡ [] → (x : Adjacent) → text_place members name texts u x ≡ []
-    quiet_text none x = sym (text_same x) ∙ ap (λ (ts : List Token). text_place_in members name ts u.text.toks x) none
-
-    quiet_told : olds ≡ [] → list_any (holds_member members) u.text.toks ≡ false → (listed : Listed) → told_offences members name texts u listed ≡ []
-    quiet_told empty none listed =
+    quiet_told : AreQuiet members name olds u.bound.names u.text.toks → (listed : Listed) → told_offences members name texts u listed ≡ []
+    quiet_told are listed =
         ap (λ (ps : List Pos). standing cause.Reserved ps ++ standing cause.AssemblerText (flat_map (text_place members name texts u) listed.texts))
-        (no_elements (word_place members u) listed.places (λ n k at. quiet_word none k))
-        ∙ ap (standing cause.AssemblerText) (no_elements (text_place members name texts u) listed.texts (λ n x at. quiet_text empty x))
+        (no_elements (word_place members u) listed.places (λ n k at. quiet_word are.0 k))
+        ∙ ap (standing cause.AssemblerText) (no_elements (text_place members name texts u) listed.texts (λ n x at. quiet_text are.1 x))
 
     in_gnu : is_gnu u.standard ≡ true → unit_offences members name texts u ≡ told_offences members name texts u (listed_in u.text.toks u.tree.under)
     in_gnu yes' = ap (λ (b : Bool). cond b (told_offences members name texts u (listed_in u.text.toks u.tree.under)) []) yes'
 
-    either_quiet : olds ≡ [] → list_any (holds_member members) u.text.toks ≡ false → (gnu : Bool) → is_gnu u.standard ≡ gnu → unit_offences members name texts u ≡ []
-    either_quiet empty none true yes' = in_gnu yes' ∙ quiet_told empty none (listed_in u.text.toks u.tree.under)
-    either_quiet empty none false no' = not_gnu texts u no'
+    either_quiet : AreQuiet members name olds u.bound.names u.text.toks → (gnu : Bool) → is_gnu u.standard ≡ gnu → unit_offences members name texts u ≡ []
+    either_quiet are true yes' = in_gnu yes' ∙ quiet_told are (listed_in u.text.toks u.tree.under)
+    either_quiet are false no' = not_gnu texts u no'
 
-  pub unit_quiet : (first : Option Offence) (olds toks : List Token) (unit : ℕ) → ((u : UnitAnalysis) → slice_get a.units (unit - 1) ≡ Some u → toks ≡ u.text.toks) → olds ≡ []
-      → list_any (holds_member members) toks ≡ false → IsAgainstUnit a members name olds unit first first
-  unit_quiet first olds toks unit are empty none u texts is have =
-      let free : list_any (holds_member members) u.text.toks ≡ false = ap (list_any (holds_member members)) (sym (are u is)) ∙ none in
-      subst (λ (os : List Offence). FirstThen a.table os first first) (sym (either_quiet u olds texts have empty free (is_gnu u.standard) refl)) (then_none a.table first)
+  pub unit_quiet : (first : Option Offence) (olds toks : List Token) (names : List Name) (unit : ℕ)
+      → ((u : UnitAnalysis) → slice_get a.units (unit - 1) ≡ Some u → (toks ≡ u.text.toks) × (names ≡ u.bound.names)) → AreQuiet members name olds names toks
+      → IsAgainstUnit a members name olds unit first first
+  unit_quiet first olds toks names unit are quiet u texts is have =
+      let of = are u is in
+      let here : AreQuiet members name olds u.bound.names u.text.toks = subst (λ (ns : List Name). AreQuiet members name olds ns u.text.toks) of.1 (subst (AreQuiet members name olds names) of.0 quiet) in
+      subst (λ (os : List Offence). FirstThen a.table os first first) (sym (either_quiet u olds texts have here (is_gnu u.standard) refl)) (then_none a.table first)
 
   pub unit_against : (first now : Option Offence) (olds toks : List Token) (names : List Name) (listed : Listed) (unit : ℕ)
       → ((u : UnitAnalysis) → slice_get a.units (unit - 1) ≡ Some u
@@ -306,15 +307,6 @@ none_at (Some p) e = refl
 -- a unit that begins somewhere as one of GNU C is one
 pub is_one : (u : UnitAnalysis) (at : Option Pos) → at ≡ gnu_begin u → is_none at ≡ false → is_gnu u.standard ≡ true
 is_one u at told_at is = sym (begins u) ∙ (ap (λ (o : Option Pos). is_some o) (sym told_at) ∙ none_at at is)
-
--- what is idle is so
-pub idle_is : (members : List Part) (olds toks : List Token) → idle members olds toks ≡ true → (olds ≡ []) × (list_any (holds_member members) toks ≡ false)
-idle_is members [] toks h = (refl, by (list_any (holds_member members) toks) h)
-  where
-    by : (b : Bool) → not b ≡ true → b ≡ false
-    by true e = absurd (false≢true e)
-    by false e = refl
-idle_is members (t ∷ olds) toks h = absurd (false≢true h)
 
 -- ---- texts
 

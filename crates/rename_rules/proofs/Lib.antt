@@ -10,5 +10,6 @@ pub mod PlannedLemmas
 pub mod EditLemmas
 pub mod PathLemmas
 pub mod FailingLemmas
+mod QuietLemmas
 mod GnuLemmas
 pub mod Below

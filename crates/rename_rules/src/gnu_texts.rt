@@ -4,7 +4,7 @@ ghost use Rattle.std.specs.List.{flat_map, list_any};
 ghost use Rattle.cs_base.specs.declared.causes.Cause.TheVariants as cause;
 ghost use Rattle.offences.specs.First.{standing, FirstThen};
 ghost use Rattle.rename_rules.specs.GnuOffences.{is_named, joined, text_toks, unquoted};
-ghost use Rattle.rename_rules.specs.GnuTexts.{at_place, text_place_in};
+ghost use Rattle.rename_rules.specs.GnuTexts.{at_place, may_be_named, may_name, may_stand, stands_in, text_place_in};
 ghost use Rattle.cs_base.specs.Token.{Token};
 
 use crate::renamings::Renaming;
@@ -50,6 +50,58 @@ fn has_name(name: &[u8], text: &[u8], olds: &[Tok]) -> bool
     ensures { result ≡ list_any (λ (t : Token). is_named name.now text.now t.text) olds.now }
 {
     olds.iter().any(|tok| is_named(name, text, tok.text()))
+}
+
+// Whether the word stands somewhere in the text, whatever is around it.
+fn stands_in(word: &[u8], text: &[u8]) -> bool
+    ensures { result ≡ stands_in word.now text.now }
+{
+    let mut rest = text;
+    while let [_, behind @ ..] = rest {
+        if rest.starts_with(word) {
+            return true;
+        }
+        rest = behind;
+    }
+    false
+}
+
+// So it may: a longer one would have to be looked for in long texts again and again.
+fn may_stand(word: &[u8], text: &[u8]) -> bool
+    ensures { result ≡ may_stand word.now text.now }
+{
+    63 < word.len() || stands_in(word, text)
+}
+
+// Whether an old name may stand there, or the new one.
+fn may_name(name: &[u8], text: &[u8], old: &[u8]) -> bool
+    ensures { result ≡ may_name name.now text.now old.now }
+{
+    may_stand(old, text) || may_stand(name, text)
+}
+
+// The same of one of these tokens' spellings.
+fn may_have(name: &[u8], text: &[u8], olds: &[Tok]) -> bool
+    ensures { result ≡ list_any (λ (t : Token). may_name name.now text.now t.text) olds.now }
+{
+    olds.iter().any(|tok| may_name(name, text, tok.text()))
+}
+
+/// Whether a text that some of these tokens make, side by side, may have a name of the class: the old ones are the spellings
+/// of the others.
+pub(crate) fn may_be_named(
+    alloc: Global,
+    renaming: &Renaming<'_>,
+    olds: &[Tok],
+    toks: &[Tok],
+) -> Result<bool, Memory>
+    ensures { IfOk result (λ may. may ≡ may_be_named renaming.now.class.members renaming.now.name olds.now toks.now) }
+{
+    if olds.is_empty() {
+        return Ok(false);
+    }
+    let text = joined(alloc, renaming, toks)?;
+    Ok(may_have(renaming.name(), &text, olds))
 }
 
 // The tokens of a text.

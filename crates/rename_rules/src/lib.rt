@@ -9,7 +9,7 @@
 //! order of paths (`specs/FileOrder.antt`).
 //!
 //! A unit of GNU C is looked at twice: `gnu_offences` reads its tree again, which lists names that may denote nothing and texts for
-//! the assembler; and where nothing else stands, `failing` reads and binds its renamed tokens, and holds both against what they
+//! the assembler, unless its tokens alone tell that none of these has to do with the class; and where nothing else stands, `failing` reads and binds its renamed tokens, and holds both against what they
 //! were. The plan of a whole renaming, and what a renaming keeps, belong to the crates above. Read the first four files in this
 //! order.
 #![tactic(auto)]

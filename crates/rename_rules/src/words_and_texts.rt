@@ -1,14 +1,13 @@
 // What stands against a renaming in units of GNU C: names that denote nothing, and texts for the assembler.
-ghost use Rattle.std.specs.Prelude.{◌≡◌, ◌≤◌, IfOk, is_some, length};
-ghost use Rattle.std.specs.List.{flat_map, list_any};
+ghost use Rattle.std.specs.Prelude.{◌≡◌, ◌≤◌, IfOk, IsTrue, length};
+ghost use Rattle.std.specs.List.{flat_map};
 ghost use Rattle.cs_base.specs.declared.causes.Cause.TheVariants as cause;
 ghost use Rattle.offences.specs.First.{standing, FirstThen};
-ghost use Rattle.offences.specs.Tokens.{holds_member};
 ghost use Rattle.rename_rules.specs.GnuOffences.{has_gnu, gnu_offences};
-ghost use Rattle.rename_rules.specs.GnuTexts.{idle, told_in, word_place_in};
+ghost use Rattle.rename_rules.specs.GnuTexts.{is_free, told_in, word_place_in, AreQuiet, NoneIsFree};
 ghost use Rattle.rename_rules.specs.GnuUnits.{IsAgainstUnit};
 
-use crate::gnu_texts::in_texts;
+use crate::gnu_texts::{in_texts, may_be_named};
 use crate::member_offences::in_token;
 use crate::renamings::Renaming;
 use crate::symbols::symbols;
@@ -85,25 +84,50 @@ fn in_lists(
     in_texts(alloc, a, renaming, olds, toks, lists.texts(), words)
 }
 
-// Whether one of the tokens holds a member.
-fn is_held(class: &Class<'_>, toks: &[Tok]) -> bool
-    ensures { result ≡ list_any (holds_member class.now.members) toks.now }
+// Whether a token holds a member, where it denotes nothing.
+fn is_free(class: &Class<'_>, bound: &Bound, toks: &[Tok], k: u32) -> bool
+    ensures { result ≡ is_free class.now.members bound.now.names toks.now k }
 {
-    toks.iter().any(|tok| holds_member(class, tok))
-}
-
-// The assembler knows nothing of the class, and none of the tokens holds a member.
-fn is_idle(class: &Class<'_>, olds: &[Tok], toks: &[Tok]) -> bool
-    ensures { result ≡ idle class.now.members olds.now toks.now }
-{
-    match olds {
-        [] => !is_held(class, toks),
-        [_, ..] => false,
+    match toks.get(k as usize) {
+        Some(tok) => bound.entity(k).is_none() && holds_member(class, tok),
+        None => false,
     }
 }
 
-// Both offences in a unit, whose tree is read again: none where the unit is not of GNU C, and none where it has no member and
-// the assembler knows nothing of the class.
+// Whether none of the tokens does.
+fn none_is_free(class: &Class<'_>, bound: &Bound, toks: &[Tok]) -> bool
+    ensures { IsTrue result → NoneIsFree class.now.members bound.now.names toks.now }
+{
+    for k in 0..u32::MAX {
+        if k as usize >= toks.len() {
+            return true;
+        }
+        if is_free(class, bound, toks, k) {
+            return false;
+        }
+    }
+    false
+}
+
+// Neither offence stands in a unit, as its tokens alone tell.
+fn is_quiet(
+    alloc: Global,
+    renaming: &Renaming<'_>,
+    olds: &[Tok],
+    bound: &Bound,
+    toks: &[Tok],
+) -> Result<bool, Memory>
+    ensures { IfOk result (λ quiet. IsTrue quiet
+        → AreQuiet renaming.now.class.members renaming.now.name olds.now bound.now.names toks.now) }
+{
+    if !none_is_free(renaming.class(), bound, toks) {
+        return Ok(false);
+    }
+    let named = may_be_named(alloc, renaming, olds, toks)?;
+    Ok(!named)
+}
+
+// Both offences in a unit: none where it is not of GNU C. Its tree is read again only where its tokens alone leave it open.
 fn in_unit(
     alloc: Global,
     a: &Analysis,
@@ -120,12 +144,14 @@ fn in_unit(
         return Ok(first);
     }
     let toks = a.text(unit).toks();
-    if is_idle(renaming.class(), olds, toks) {
+    let bound = a.bound(unit);
+    let quiet = is_quiet(alloc, renaming, olds, bound, toks)?;
+    if quiet {
         return Ok(first);
     }
     let tree = a.tree(alloc, unit)?;
     let lists = lists_of(alloc, toks, &tree)?;
-    in_lists(alloc, a, renaming, olds, a.bound(unit), toks, &lists, first)
+    in_lists(alloc, a, renaming, olds, bound, toks, &lists, first)
 }
 
 // Both offences in all units.

@@ -22,7 +22,7 @@ use Rattle.tree_laws.proofs.Outline.{Entry, Outline, added, is_listing, stepped,
 use Rattle.reordered_tree_laws.specs.Reordered.{nodes_in, is_parenthesised, is_among, permuted, numbered}
 use Rattle.reordered_tree_laws.specs.Cuts.{cut_then, items_in}
 use Rattle.reordered_tree_laws.specs.Premises.{is_items, is_item_production, is_item}
-use Rattle.reordered_tree_laws.specs.Moving.{AreMovedTexts}
+use Rattle.scope_bind.specs.Moved.{AreMovedTexts}
 use Rattle.reordered_tree_laws.proofs.SameForms.{same-cut, same-numbered}
 use Rattle.reordered_tree_laws.proofs.MovedHeads.{lowest_stays}
 use Rattle.reordered_tree_laws.proofs.MovedWalk.{from_numbered}

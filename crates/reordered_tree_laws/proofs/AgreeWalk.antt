@@ -20,7 +20,8 @@ use Rattle.tree_laws.proofs.Outline.{Entry, Outline, stepped, begun, ended, outl
 use Rattle.reordered_tree_laws.specs.Reordered.{nodes_in, shuffled, is_parenthesised, permuted, numbered}
 use Rattle.reordered_tree_laws.specs.Cuts.{cut_then}
 use Rattle.reordered_tree_laws.specs.Premises.{is_items}
-use Rattle.reordered_tree_laws.specs.Moving.{AreMovedTexts, AreMovedTo}
+use Rattle.scope_bind.specs.Moved.{AreMovedTexts}
+use Rattle.reordered_tree_laws.specs.Moving.{AreMovedTo}
 use Rattle.reordered_tree_laws.proofs.MovedTrees.{AreSpans}
 use Rattle.reordered_tree_laws.proofs.MovedOrders.{spans_permuted}
 use Rattle.reordered_tree_laws.specs.BareNames.{HaveBareNames}

@@ -21,7 +21,7 @@ use Rattle.list_cuts.specs.Cuts.{IsOrder}
 use Rattle.tree_laws.proofs.Outline.{Entry, Outline, added, is_listing, stepped, begun, ended, outlined, typedef_among, token_agrees, node_agrees, all_agree}
 use Rattle.reordered_tree_laws.specs.Reordered.{nodes_in}
 use Rattle.reordered_tree_laws.specs.Premises.{is_items, is_item_production, declared_name}
-use Rattle.reordered_tree_laws.specs.Moving.{AreMovedTexts}
+use Rattle.scope_bind.specs.Moved.{AreMovedTexts}
 use Rattle.reordered_tree_laws.proofs.Answered.{open_at, kind_among, kind_append, is_yes, among_kind}
 use Rattle.reordered_tree_laws.proofs.Longer.{lengthened}
 use Rattle.reordered_tree_laws.proofs.Bags.{bare, bag_in, AreItems, items_unlisted, bare_ended, one_item}

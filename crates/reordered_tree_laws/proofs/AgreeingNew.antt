@@ -15,7 +15,8 @@ use Rattle.tree_laws.proofs.Outline.{Entry, Outline, added, is_listing, stepped,
 use Rattle.reordered_tree_laws.specs.Reordered.{nodes_in, refilled, is_among, numbered}
 use Rattle.reordered_tree_laws.specs.Cuts.{cut_then}
 use Rattle.reordered_tree_laws.specs.Premises.{is_items, is_item_production, declared_name}
-use Rattle.reordered_tree_laws.specs.Moving.{AreMovedTexts, AreMovedTo}
+use Rattle.scope_bind.specs.Moved.{AreMovedTexts}
+use Rattle.reordered_tree_laws.specs.Moving.{AreMovedTo}
 use Rattle.reordered_tree_laws.proofs.MovedTrees.{AreSpans}
 use Rattle.reordered_tree_laws.proofs.MovedWalk.{count_numbered}
 use Rattle.reordered_tree_laws.proofs.MovedOrders.{spans_permuted}

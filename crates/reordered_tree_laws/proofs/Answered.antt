@@ -8,8 +8,9 @@ use Rattle.cs_base.specs.Token.{Token}
 use Rattle.c_types.specs.Declarations.{alike}
 use Rattle.tree_laws.proofs.Outline.{Entry, entry, copies, kept_entries, is_open, typedef_among}
 use Rattle.tree_laws.proofs.Outlines.{among_step}
-use Rattle.reordered_tree_laws.specs.Moving.{IsAhead, AreMovedTexts}
-use Rattle.reordered_tree_laws.proofs.MovedFacts.{same_number, same_spelling}
+use Rattle.scope_bind.specs.Moved.{AreMovedTexts}
+use Rattle.reordered_tree_laws.specs.Moving.{IsAhead}
+use Rattle.scope_bind.proofs.MovedSpaces.{same_number, same_spelling}
 
 -- what is asked of an entry that is spelled alike: its range holds a token, it is a name of a list, or it stands so deep
 pub data Ask : Type 0 where

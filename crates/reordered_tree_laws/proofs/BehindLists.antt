@@ -15,7 +15,8 @@ use Rattle.scope_bind.specs.Named.{Declaration, Occurrence, Frame}
 use Rattle.list_cuts.specs.Cuts.{IsOrder}
 use Rattle.reordered_tree_laws.specs.Adding.{IsNamedIn}
 use Rattle.reordered_tree_laws.specs.Premises.{is_items}
-use Rattle.reordered_tree_laws.specs.Moving.{AreMoved, AreToldAlike, moved_occurrence, Question, answers, moved_question, IsAsked, GoTogether, AreMovedTexts}
+use Rattle.scope_bind.specs.Moved.{moved_occurrence, AreMovedTexts}
+use Rattle.reordered_tree_laws.specs.Moving.{AreMoved, AreToldAlike, Question, answers, moved_question, IsAsked, GoTogether}
 use Rattle.reordered_tree_laws.proofs.MovedFacts.{further_asked}
 use Rattle.reordered_tree_laws.proofs.MovedPlaces.{hits, hits-once}
 use Rattle.reordered_tree_laws.specs.Owned.{IsOwnName}

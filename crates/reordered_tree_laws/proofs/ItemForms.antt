@@ -18,7 +18,8 @@ use Rattle.name_chains.specs.Entering.{scope_in}
 use Rattle.scope_bind.specs.Named.{Scope}
 use Rattle.tree_laws.specs.TreesOfTexts.{token_count, begins_with_token}
 use Rattle.list_cuts.specs.Cuts.{Cut, done, IsOrder, AreOf, AreItemsOf}
-use Rattle.reordered_tree_laws.specs.Moving.{AreMovedTexts, AreMovedTo}
+use Rattle.scope_bind.specs.Moved.{AreMovedTexts}
+use Rattle.reordered_tree_laws.specs.Moving.{AreMovedTo}
 use Rattle.reordered_tree_laws.specs.Premises.{is_items, is_bracketed, asks_sign, stands_in, declares_type, has_outer_list, is_fit_child, is_fit, lists_pass, declared_name, is_item_production, is_item, asked_in, is_unasked_in, are_two_apart}
 use Rattle.reordered_tree_laws.specs.Reordered.{nodes_in, picked_nodes, shuffled, is_among, permuted, numbered}
 use Rattle.reordered_tree_laws.specs.Cuts.{cut_then, items_in}

@@ -21,7 +21,8 @@ use Rattle.list_cuts.specs.Cuts.{IsOrder}
 use Rattle.reordered_tree_laws.specs.Reordered.{is_among, permuted, numbered}
 use Rattle.reordered_tree_laws.specs.Adding.{IsNamedIn}
 use Rattle.reordered_tree_laws.specs.Premises.{is_items, is_item_production}
-use Rattle.reordered_tree_laws.specs.Moving.{AreMoved, AreToldAlike, moved_frame, moved_occurrence, Question, answers, moved_question, IsAhead, IsAsked, GoTogether, StatesGo, AreMovedTexts, AreMovedTo}
+use Rattle.scope_bind.specs.Moved.{moved_frame, moved_occurrence, AreMovedTexts}
+use Rattle.reordered_tree_laws.specs.Moving.{AreMoved, AreToldAlike, Question, answers, moved_question, IsAhead, IsAsked, GoTogether, StatesGo, AreMovedTo}
 use Rattle.reordered_tree_laws.proofs.MovedFacts.{further_ahead, further_asked, further}
 use Rattle.reordered_tree_laws.proofs.MovedTrees.{AreSpans}
 use Rattle.reordered_tree_laws.proofs.MovedWalk.{at_places}

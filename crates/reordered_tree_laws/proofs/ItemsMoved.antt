@@ -18,7 +18,8 @@ use Rattle.c_types.specs.Declarations.{alike, spelling_at}
 use Rattle.tree_laws.specs.TreesOfTexts.{token_count}
 use Rattle.list_cuts.specs.Cuts.{Cut, IsOrder, AreOf}
 use Rattle.reordered_tree_laws.specs.Adding.{is_tagged, has_no_list, is_adding_node, is_adding}
-use Rattle.reordered_tree_laws.specs.Moving.{AreMovedTexts, AreMovedTo}
+use Rattle.scope_bind.specs.Moved.{AreMovedTexts}
+use Rattle.reordered_tree_laws.specs.Moving.{AreMovedTo}
 use Rattle.reordered_tree_laws.specs.Premises.{parameter_name, declared_name, is_item_production, is_scope, is_quiet_child, is_quiet, has_typedef_word, is_item, used_in, asked_in, is_unasked_in}
 use Rattle.reordered_tree_laws.specs.Reordered.{is_parenthesised, is_among, permuted, numbered}
 use Rattle.reordered_tree_laws.specs.Cuts.{cut_then}

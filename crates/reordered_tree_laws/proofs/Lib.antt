@@ -14,7 +14,6 @@ mod PremiseRows
 pub mod Ranges
 pub mod MovedLists
 pub mod MovedFacts
-pub mod MovedTypes
 pub mod MovedNames
 pub mod MovedMembers
 pub mod MovedTrees

@@ -22,10 +22,11 @@ use Rattle.list_cuts.specs.Cuts.{done, keep, IsOrder, AreOf}
 use Rattle.reordered_tree_laws.specs.Reordered.{nodes_in, shuffled, is_among, permuted, numbered}
 use Rattle.reordered_tree_laws.specs.Cuts.{list_then}
 use Rattle.reordered_tree_laws.specs.Premises.{is_items, is_spaced, is_fit, tags_in, is_item, are_apart}
-use Rattle.reordered_tree_laws.specs.Moving.{moved_frame, IsAhead, GoTogether, AreMovedTexts, AreMovedTo}
+use Rattle.scope_bind.specs.Moved.{moved_frame, AreMovedTexts}
+use Rattle.reordered_tree_laws.specs.Moving.{IsAhead, GoTogether, AreMovedTo}
 use Rattle.reordered_tree_laws.proofs.Arranged.{items_all}
 use Rattle.reordered_tree_laws.proofs.SameForms.{same-numbered, from-numbered}
-use Rattle.reordered_tree_laws.proofs.MovedFacts.{same_number}
+use Rattle.scope_bind.proofs.MovedSpaces.{same_number}
 use Rattle.reordered_tree_laws.proofs.MovedUnits.{no_some}
 use Rattle.reordered_tree_laws.specs.Lasting.{tags_pass}
 use Rattle.reordered_tree_laws.specs.Siblings.{Gain, gained, noted, is_between, in_items, ListGains, ItemsGain, AreFresh, AlonesClear, IsFineList}

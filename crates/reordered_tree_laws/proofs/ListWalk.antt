@@ -19,7 +19,8 @@ use Rattle.list_cuts.specs.Cuts.{done, IsOrder, AreOf}
 use Rattle.reordered_tree_laws.specs.Reordered.{is_parenthesised, is_among, permuted, numbered}
 use Rattle.reordered_tree_laws.specs.Cuts.{cut_then}
 use Rattle.reordered_tree_laws.specs.Premises.{is_items, is_bracketed, has_outer_list, is_fit_child, is_fit, lists_pass, tags_in, is_item, are_apart}
-use Rattle.reordered_tree_laws.specs.Moving.{StatesGo, AreMovedTexts, AreMovedTo}
+use Rattle.scope_bind.specs.Moved.{AreMovedTexts}
+use Rattle.reordered_tree_laws.specs.Moving.{StatesGo, AreMovedTo}
 use Rattle.reordered_tree_laws.proofs.Arranged.{cut_all}
 use Rattle.reordered_tree_laws.proofs.SameForms.{count-numbered, from-numbered}
 use Rattle.reordered_tree_laws.proofs.MovedTokens.{token_goes}

@@ -19,7 +19,8 @@ use Rattle.list_cuts.specs.Cuts.{done, keep, numbers, IsOrder, AreOf}
 use Rattle.reordered_tree_laws.specs.Reordered.{nodes_in, picked_nodes, shuffled, is_parenthesised, is_among, permuted, numbered}
 use Rattle.reordered_tree_laws.specs.Cuts.{cut_then}
 use Rattle.reordered_tree_laws.specs.Premises.{is_items, is_spaced, is_bracketed, is_fit_child, is_fit, lists_pass, tags_in, is_item, are_apart}
-use Rattle.reordered_tree_laws.specs.Moving.{GoTogether, FramesGo, StatesGo, AreMovedTexts, AreMovedTo}
+use Rattle.scope_bind.specs.Moved.{AreMovedTexts}
+use Rattle.reordered_tree_laws.specs.Moving.{GoTogether, FramesGo, StatesGo, AreMovedTo}
 use Rattle.reordered_tree_laws.proofs.SameForms.{unfilled, counted, same-cut}
 use Rattle.reordered_tree_laws.proofs.MovedTokens.{token_goes}
 use Rattle.reordered_tree_laws.proofs.MovedHeads.{count_permuted}

@@ -18,9 +18,10 @@ use Rattle.name_chains.specs.Initializers.{next_place}
 use Rattle.name_chains.specs.Entering.{inner, is_scoped, scope_in, body_in, listing_in, alone_in, owner_in, given_in, position_in, with_kept, facts_in, found_in, frame_in, entered}
 use Rattle.scope_bind.specs.Named.{Body, Frame, Scope}
 use Rattle.reordered_tree_laws.specs.Premises.{stands_in}
-use Rattle.reordered_tree_laws.specs.Moving.{moved_type, moved_body, moved_frame, IsAhead, GoTogether, StatesGo, AreMovedTexts}
-use Rattle.reordered_tree_laws.proofs.MovedFacts.{same_number, number_moved}
-use Rattle.reordered_tree_laws.proofs.MovedTypes.{type_if, called_moved, unknown_same}
+use Rattle.scope_bind.specs.Moved.{moved_type, moved_body, moved_frame, AreMovedTexts}
+use Rattle.reordered_tree_laws.specs.Moving.{IsAhead, GoTogether, StatesGo}
+use Rattle.scope_bind.proofs.MovedSpaces.{same_number, number_moved}
+use Rattle.scope_bind.proofs.MovedTypes.{type_if, called_moved, unknown_same}
 use Rattle.reordered_tree_laws.proofs.MovedNames.{ScopeGoes}
 use Rattle.reordered_tree_laws.proofs.MovedMembers.{next_moved}
 use Rattle.reordered_tree_laws.proofs.MovedKept.{kept_moves}

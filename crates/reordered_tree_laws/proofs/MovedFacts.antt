@@ -2,23 +2,20 @@
 use Rattle.std.proofs.Common.{ℕ, ◌+◌, ◌≤◌, ◌≡◌, Bool, true, false, ◌&&◌, ◌||◌, cond, if◌then◌else◌, ◌==◌, List, [], ◌∷◌, ◌++◌, map, Option, None, Some, inl, inr, refl, sym, ap, subst, ◌∙◌, arith}
 use Rattle.std.specs.Prelude.{find, filter, is_some}
 use Rattle.std.specs.List.{list_any}
-use Rattle.std.specs.Str.{bytes_eq}
-use Rattle.std.proofs.lemmas.Bool.{false≢true, cases_Bool, eqb-true, eq-eqb}
+use Rattle.std.proofs.lemmas.Bool.{false≢true}
 use Rattle.std.proofs.lemmas.List.{map-append}
 use Rattle.std.proofs.lemmas.List.Folds.{list_any-append}
 use Rattle.cs_base.specs.Token.{Token}
 use Rattle.c_types.specs.Faults.{first_fault, comes_first}
-use Rattle.c_types.specs.Types.{CType}
-use Rattle.c_types.specs.Tags.{number_in, base_number}
-use Rattle.c_types.specs.declared.types.Base.{Base}
-use Rattle.c_types.specs.declared.types.Base.TheVariants.{Arithmetic, Nothing, Structure, Union, Enumeration, Unknown}
 use Rattle.c_types.specs.declared.declarations.Space.TheVariants.{Ordinary, Tags, Members, Inner, Unnamed, Labels}
-use Rattle.c_types.specs.Declarations.{Facts, alike, is_named, is_space, is_live, is_in, has_linkage, spelling_at, with_fault, with_occurrence, with_declaration, with_begun, with_complete}
+use Rattle.c_types.specs.Declarations.{Facts, alike, is_named, is_space, is_live, is_in, has_linkage, with_fault, with_occurrence, with_declaration, with_begun, with_complete}
 use Rattle.name_chains.specs.Members.{with_silent}
 use Rattle.scope_bind.specs.Labels.{with_jump}
-use Rattle.scope_bind.specs.Named.{Cause, Fault, Space, Declaration, Occurrence, ordinary, tags, members, labels}
+use Rattle.scope_bind.specs.Named.{Cause, Fault, Space, Declaration, Occurrence, ordinary, tags, labels}
 use Rattle.reordered_tree_laws.specs.Ranges.{has_range}
-use Rattle.reordered_tree_laws.specs.Moving.{moved_base, moved_type, moved_space, moved_occurrence, IsMoved, AreMoved, AreToldAlike, Mark, named, tagged, joined, owned, labelled, placed, is_owned, has_mark, is_of_list, Question, whole, living, listed, answers, moved_mark, moved_question, IsAhead, IsAsked, GoTogether, AreMovedTexts}
+use Rattle.scope_bind.specs.Moved.{moved_space, moved_occurrence, IsMoved, AreMovedTexts}
+use Rattle.reordered_tree_laws.specs.Moving.{AreMoved, AreToldAlike, Mark, named, tagged, joined, owned, labelled, placed, is_owned, has_mark, is_of_list, Question, whole, living, listed, answers, moved_mark, moved_question, IsAhead, IsAsked, GoTogether}
+use Rattle.scope_bind.proofs.MovedSpaces.{same_number, same_ordinary, same_tags, same_labels, named_moved}
 use Rattle.reordered_tree_laws.proofs.MovedLists.{find_both, filter_both, any_both, moved_more, AreFound, found_moved, filter_moved, any_moved}
 
 -- a declaration beside its moved one: the same tokens ahead stand in their ranges, and they are names of the same list
@@ -29,79 +26,23 @@ pub record IsTimed (m : ℕ → ℕ) (lo there : ℕ) (d e : Declaration) : Type
 module _ (m : ℕ → ℕ) (old new : List Token) (law : AreMovedTexts m old new) where
   -- ---- Marks
 
-  pub same_number : (i j : ℕ) → (m i == m j) ≡ (i == j)
-  same_number i j = elim (cases_Bool (i == j)) [
-    | inl e ↦ let same : i ≡ j = eqb-true i j e in (subst (λ k. (m i == m k) ≡ true) same (same_self (m i))) ∙ sym e
-    | inr e ↦ elim (cases_Bool (m i == m j)) [
-      | inl w ↦ let same : i ≡ j = law.apart i j (eqb-true (m i) (m j) w) in absurd (false≢true (sym e ∙ subst (λ k. (i == k) ≡ true) same (same_self i)))
-      | inr w ↦ w ∙ sym e
-    ]
-  ]
-    where
-      same_self : (k : ℕ) → (k == k) ≡ true
-      same_self k = eq-eqb k k refl
-
-  pub same_spelling : (i j : ℕ) → alike new (m i) (m j) ≡ alike old i j
-  same_spelling i j =
-      ap (λ x. bytes_eq x (spelling_at new (m j))) (law.spelled i) ∙ ap (λ x. bytes_eq (spelling_at old i) x) (law.spelled j)
-
-  pub same_ordinary : (s : Space) → is_space (moved_space m s) ordinary ≡ is_space s ordinary
-  same_ordinary Ordinary = refl
-  same_ordinary Tags = refl
-  same_ordinary (Members n) = refl
-  same_ordinary (Inner n) = refl
-  same_ordinary (Unnamed n) = refl
-  same_ordinary (Labels n) = refl
-
-  pub same_tags : (s : Space) → is_space (moved_space m s) tags ≡ is_space s tags
-  same_tags Ordinary = refl
-  same_tags Tags = refl
-  same_tags (Members n) = refl
-  same_tags (Inner n) = refl
-  same_tags (Unnamed n) = refl
-  same_tags (Labels n) = refl
-
-  pub same_members : (n : ℕ) (s : Space) → is_space (moved_space m s) (members (m n)) ≡ is_space s (members n)
-  same_members n Ordinary = refl
-  same_members n Tags = refl
-  same_members n (Members k) = same_number k n
-  same_members n (Inner k) = same_number k n
-  same_members n (Unnamed k) = refl
-  same_members n (Labels k) = refl
-
   same_owned : (n : ℕ) (s : Space) → is_owned (m n) (moved_space m s) ≡ is_owned n s
   same_owned n Ordinary = refl
   same_owned n Tags = refl
-  same_owned n (Members k) = same_number k n
-  same_owned n (Inner k) = same_number k n
-  same_owned n (Unnamed k) = same_number k n
+  same_owned n (Members k) = same_number m old new law k n
+  same_owned n (Inner k) = same_number m old new law k n
+  same_owned n (Unnamed k) = same_number m old new law k n
   same_owned n (Labels k) = refl
 
-  pub same_labels : (n : ℕ) (s : Space) → is_space (moved_space m s) (labels (m n)) ≡ is_space s (labels n)
-  same_labels n Ordinary = refl
-  same_labels n Tags = refl
-  same_labels n (Members k) = refl
-  same_labels n (Inner k) = refl
-  same_labels n (Unnamed k) = refl
-  same_labels n (Labels k) = same_number k n
-
-  pub named_moved : (space there : Space) (i : ℕ) (d e : Declaration) → is_space (moved_space m d.space) there ≡ is_space d.space space → IsMoved m d e
-      → is_named new there (m i) e ≡ is_named old space i d
-  named_moved space there i d e same h =
-      ap (λ s. is_space s there && alike new (m i) e.name_at) h.space
-      ∙ (ap (λ b. b && alike new (m i) e.name_at) same
-      ∙ (ap (λ j. is_space d.space space && alike new (m i) j) h.name_at
-      ∙ ap (λ b. is_space d.space space && b) (same_spelling i d.name_at)))
-
   pub mark_moved : (a : Mark) (d e : Declaration) → IsMoved m d e → has_mark new (moved_mark m a) e ≡ has_mark old a d
-  mark_moved (named i) d e h = named_moved ordinary ordinary i d e (same_ordinary d.space) h
-  mark_moved (tagged i) d e h = named_moved tags tags i d e (same_tags d.space) h
+  mark_moved (named i) d e h = named_moved m old new law ordinary ordinary i d e (same_ordinary m old new law d.space) h
+  mark_moved (tagged i) d e h = named_moved m old new law tags tags i d e (same_tags m old new law d.space) h
   mark_moved (joined i) d e h =
-      ap (λ b. b && has_linkage e.linkage) (named_moved ordinary ordinary i d e (same_ordinary d.space) h)
+      ap (λ b. b && has_linkage e.linkage) (named_moved m old new law ordinary ordinary i d e (same_ordinary m old new law d.space) h)
       ∙ ap (λ l. is_named old ordinary i d && has_linkage l) h.linkage
   mark_moved (owned n) d e h = ap (is_owned (m n)) h.space ∙ same_owned n d.space
-  mark_moved (labelled n) d e h = ap (λ s. is_space s (labels (m n))) h.space ∙ same_labels n d.space
-  mark_moved (placed i) d e h = ap (λ j. j == m i) h.name_at ∙ same_number d.name_at i
+  mark_moved (labelled n) d e h = ap (λ s. is_space s (labels (m n))) h.space ∙ same_labels m old new law n d.space
+  mark_moved (placed i) d e h = ap (λ j. j == m i) h.name_at ∙ same_number m old new law d.name_at i
 
   -- ---- What is asked
 
@@ -259,7 +200,7 @@ module _ (m : ℕ → ℕ) (old new : List Token) (law : AreMovedTexts m old new
           fault = k.fault;
           noted = λ j.
               noted_step o j (i == j) (m i == m j) (filter (λ (x : Occurrence). x.index == j) f.occurrences)
-              (filter (λ (x : Occurrence). x.index == m j) g.occurrences) (same_number i j) (k.noted j);
+              (filter (λ (x : Occurrence). x.index == m j) g.occurrences) (same_number m old new law i j) (k.noted j);
         }
 
     told_more : (d e : Declaration) (x y : Option Declaration) (c b : Bool) → b ≡ c → IsMoved m d e → AreToldAlike x y
@@ -276,7 +217,7 @@ module _ (m : ℕ → ℕ) (old new : List Token) (law : AreMovedTexts m old new
           (answers new (moved_question m q) e) (answer_moved lo there q d e a h t) h (k.asked q a);
       told = λ i.
           told_more d e (find (λ x. x.name_at == i) f.declared) (find (λ x. x.name_at == m i) g.declared) (d.name_at == i) (e.name_at == m i)
-          (ap (λ j. j == m i) h.name_at ∙ same_number d.name_at i) h (k.told i);
+          (ap (λ j. j == m i) h.name_at ∙ same_number m old new law d.name_at i) h (k.told i);
       begun = k.begun;
       complete = k.complete;
       jumps = k.jumps;
@@ -288,7 +229,7 @@ module _ (m : ℕ → ℕ) (old new : List Token) (law : AreMovedTexts m old new
     more_in xs ys e n same =
         list_any-append (λ x. x == m n) ys (m e ∷ [])
         ∙ (ap (λ b. b || is_in (m e ∷ []) (m n)) same
-        ∙ (ap (λ b. is_in xs n || (b || false)) (same_number e n) ∙ sym (list_any-append (λ x. x == n) xs (e ∷ []))))
+        ∙ (ap (λ b. is_in xs n || (b || false)) (same_number m old new law e n) ∙ sym (list_any-append (λ x. x == n) xs (e ∷ []))))
 
     pub begun_moves : (c : Bool) (e : ℕ) → Together lo there (with_begun c e f) (with_begun c (m e) g)
     begun_moves false e = k
@@ -331,16 +272,3 @@ module _ (m : ℕ → ℕ) (old new : List Token) (law : AreMovedTexts m old new
       subst (λ i. Together lo there (with_declaration d f) (with_occurrence i e.entity true (with_silent e g))) (sym h.name_at)
       (subst (λ i. Together lo there (with_declaration d f) (with_occurrence (m d.name_at) i true (with_silent e g))) (sym h.entity)
       (occurrence_moves lo there (with_silent d f) (with_silent e g) (silent_moves lo there f g k d e h t) d.name_at d.entity true))
-
-  -- ---- Types
-
-  pub number_moved : (t : CType) → number_in (moved_type m t) ≡ m (number_in t)
-  number_moved t = by t.base
-    where
-      by : (b : Base) → base_number (moved_base m b) ≡ m (base_number b)
-      by (Structure n) = refl
-      by (Union n) = refl
-      by (Enumeration n) = refl
-      by Arithmetic = sym law.first
-      by Nothing = sym law.first
-      by Unknown = sym law.first

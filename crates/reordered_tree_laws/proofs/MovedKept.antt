@@ -9,9 +9,10 @@ use Rattle.cs_base.proofs.BoolLemmas.{and_true as and_all}
 use Rattle.c_types.specs.Declarations.{Facts}
 use Rattle.name_chains.specs.Entering.{is_member, kept_here, with_kept}
 use Rattle.scope_bind.specs.Named.{Declaration}
-use Rattle.reordered_tree_laws.specs.Moving.{IsMoved, AreMoved, AreToldAlike, Mark, named, tagged, joined, owned, labelled, placed, has_mark, is_of_list, Question, whole, living, listed, answers, moved_mark, moved_question, IsAhead, IsAsked, GoTogether, AreMovedTexts}
+use Rattle.scope_bind.specs.Moved.{IsMoved, AreMovedTexts}
+use Rattle.reordered_tree_laws.specs.Moving.{AreMoved, AreToldAlike, Mark, named, tagged, joined, owned, labelled, placed, has_mark, is_of_list, Question, whole, living, listed, answers, moved_mark, moved_question, IsAhead, IsAsked, GoTogether}
 use Rattle.reordered_tree_laws.proofs.MovedLists.{append_moved}
-use Rattle.reordered_tree_laws.proofs.MovedFacts.{same_number}
+use Rattle.scope_bind.proofs.MovedSpaces.{same_number}
 
 filter_append : (q : Declaration → Bool) (xs ys : List Declaration) → filter q (xs ++ ys) ≡ filter q xs ++ filter q ys
 filter_append q [] ys = refl

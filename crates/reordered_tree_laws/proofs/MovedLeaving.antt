@@ -24,9 +24,11 @@ use Rattle.scope_bind.specs.Ordinary.{declared, new_object, with_object, new_par
 use Rattle.scope_bind.specs.Expressions.{found_after}
 use Rattle.scope_bind.specs.Walk.{declared_in, parameter_in, facts_after, kept_after, frame_after, left}
 use Rattle.reordered_tree_laws.specs.Seen.{are_parts}
-use Rattle.reordered_tree_laws.specs.Moving.{moved_type, moved_body, moved_frame, GoTogether, FramesGo, StatesGo, AreMovedTexts}
-use Rattle.reordered_tree_laws.proofs.MovedFacts.{number_moved, complete_moves}
-use Rattle.reordered_tree_laws.proofs.MovedTypes.{type_if, declarator_moved, record_same, arithmetic_same, unknown_same, asks_front, is_type_name, after_moved}
+use Rattle.scope_bind.specs.Moved.{moved_type, moved_body, moved_frame, AreMovedTexts}
+use Rattle.reordered_tree_laws.specs.Moving.{GoTogether, FramesGo, StatesGo}
+use Rattle.scope_bind.proofs.MovedSpaces.{number_moved}
+use Rattle.reordered_tree_laws.proofs.MovedFacts.{complete_moves}
+use Rattle.scope_bind.proofs.MovedTypes.{type_if, declarator_moved, record_same, arithmetic_same, unknown_same, asks_front, is_type_name, after_moved}
 use Rattle.reordered_tree_laws.proofs.MovedNames.{ScopeGoes, declared_moves, parameter_moves, object_moves}
 use Rattle.reordered_tree_laws.proofs.MovedMembers.{member_moves, anonymous_moves, labels_move}
 use Rattle.reordered_tree_laws.proofs.MovedTrees.{AreSeenMoved}

@@ -5,7 +5,8 @@ use Rattle.std.specs.Prelude.{find, filter, slice_get}
 use Rattle.std.specs.List.{list_any}
 use Rattle.std.specs.Option.{option_map_or}
 use Rattle.scope_bind.specs.Named.{Declaration}
-use Rattle.reordered_tree_laws.specs.Moving.{IsMoved, AreMoved}
+use Rattle.scope_bind.specs.Moved.{IsMoved}
+use Rattle.reordered_tree_laws.specs.Moving.{AreMoved}
 
 -- ---- Two tests, one after the other
 

@@ -18,10 +18,12 @@ use Rattle.name_chains.specs.Initializers.{member_place, is_union_base, next_mem
 use Rattle.scope_bind.specs.Named.{Space, Declaration, Body, Frame, no_member, no_label, redeclared, designator_after_elision, members, labels}
 use Rattle.scope_bind.specs.Labels.{label_declaration, with_label, jump_to, with_jumps, with_labels}
 use Rattle.reordered_tree_laws.specs.Ranges.{has_range}
-use Rattle.reordered_tree_laws.specs.Moving.{moved_space, moved_type, moved_body, moved_frame, IsMoved, AreMoved, owned, labelled, is_owned, whole, GoTogether, AreMovedTexts}
+use Rattle.scope_bind.specs.Moved.{moved_space, moved_type, moved_body, moved_frame, IsMoved, AreMovedTexts}
+use Rattle.reordered_tree_laws.specs.Moving.{AreMoved, owned, labelled, is_owned, whole, GoTogether}
 use Rattle.reordered_tree_laws.proofs.MovedLists.{AreFound, reverse_moved, at_moved}
-use Rattle.reordered_tree_laws.proofs.MovedFacts.{IsTimed, same_number, same_spelling, same_members, named_moved, number_moved, asked_found, asked_filter, fault_moves, occurrence_moves, silent_moves, declaration_moves}
-use Rattle.reordered_tree_laws.proofs.MovedTypes.{type_if, record_same, unknown_same, union_same}
+use Rattle.scope_bind.proofs.MovedSpaces.{same_number, same_spelling, same_members, named_moved, number_moved}
+use Rattle.reordered_tree_laws.proofs.MovedFacts.{IsTimed, asked_found, asked_filter, fault_moves, occurrence_moves, silent_moves, declaration_moves}
+use Rattle.scope_bind.proofs.MovedTypes.{type_if, record_same, unknown_same, union_same}
 use Rattle.reordered_tree_laws.proofs.MovedNames.{false_last}
 
 and_self : (a : Bool) → a ≡ (a && a)

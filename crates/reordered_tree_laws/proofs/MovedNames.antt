@@ -17,10 +17,12 @@ use Rattle.name_chains.specs.Entering.{is_member}
 use Rattle.scope_bind.specs.Named.{Declaration, Declared, Body, Frame, Scope, undeclared, redeclared, tag_redefined, mixed_linkage, ordinary, tags}
 use Rattle.scope_bind.specs.Linkage.{prior_linkage, follows_prior, own_linkage}
 use Rattle.scope_bind.specs.Ordinary.{is_again, linked_entity, entity_of, is_listed, declaration_of, declared_faults, declared, used_as, used, used_type, is_func, plain_name, new_parameter, new_kind, new_type, new_linkage, new_object}
-use Rattle.reordered_tree_laws.specs.Moving.{moved_type, moved_body, moved_frame, IsMoved, named, tagged, joined, living, whole, IsAhead, GoTogether, AreMovedTexts}
+use Rattle.scope_bind.specs.Moved.{moved_type, moved_body, moved_frame, IsMoved, AreMovedTexts}
+use Rattle.reordered_tree_laws.specs.Moving.{named, tagged, joined, living, whole, IsAhead, GoTogether}
 use Rattle.reordered_tree_laws.proofs.MovedLists.{and_three, AreFound, told_moved}
-use Rattle.reordered_tree_laws.proofs.MovedFacts.{IsTimed, same_number, number_moved, asked_found, asked_any, fault_moves, occurrence_moves, begun_moves, declaration_moves}
-use Rattle.reordered_tree_laws.proofs.MovedTypes.{type_if, adjusted_moved, renumbered_moved, sort_same}
+use Rattle.scope_bind.proofs.MovedSpaces.{same_number, number_moved}
+use Rattle.reordered_tree_laws.proofs.MovedFacts.{IsTimed, asked_found, asked_any, fault_moves, occurrence_moves, begun_moves, declaration_moves}
+use Rattle.scope_bind.proofs.MovedTypes.{type_if, adjusted_moved, renumbered_moved, sort_same}
 
 number_if : (m : ℕ → ℕ) (c : Bool) (i j a b : ℕ) → a ≡ m i → b ≡ m j → (if c then a else b) ≡ m (if c then i else j)
 number_if m true i j a b h k = h

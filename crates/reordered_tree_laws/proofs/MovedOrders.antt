@@ -24,10 +24,11 @@ use Rattle.reordered_tree_laws.specs.Reordered.{shuffled, is_parenthesised, is_a
 use Rattle.reordered_tree_laws.specs.Cuts.{cut_then}
 use Rattle.reordered_tree_laws.specs.Seen.{AreSeenAlike}
 use Rattle.reordered_tree_laws.specs.Premises.{is_items, is_spaced, is_bracketed, has_outer_list}
-use Rattle.reordered_tree_laws.specs.Moving.{StatesGo, AreMovedTexts, AreMovedTo}
+use Rattle.scope_bind.specs.Moved.{AreMovedTexts}
+use Rattle.reordered_tree_laws.specs.Moving.{StatesGo, AreMovedTo}
 use Rattle.reordered_tree_laws.proofs.Seen.{orders_not_seen}
 use Rattle.reordered_tree_laws.proofs.MovedTrees.{AreSeenMoved, AreSpans, seen_numbered, typed_same, last_at}
-use Rattle.reordered_tree_laws.proofs.MovedFacts.{same_number}
+use Rattle.scope_bind.proofs.MovedSpaces.{same_number}
 use Rattle.reordered_tree_laws.proofs.MovedEntering.{ArePlaced, entered_moves}
 use Rattle.reordered_tree_laws.proofs.MovedLeaving.{DeclaresAt, left_moves}
 use Rattle.reordered_tree_laws.proofs.MovedHeads.{leaves_permute, count_permuted}

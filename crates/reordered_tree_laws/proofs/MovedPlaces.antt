@@ -15,7 +15,8 @@ use Rattle.list_cuts.proofs.OrderLemmas.{length-numbers}
 use Rattle.list_cuts.proofs.CutLemmas.{arranged-map, arranged_permutes}
 use Rattle.reordered_tree_laws.specs.Reordered.{permuted, leaves}
 use Rattle.reordered_tree_laws.specs.Cuts.{cut_in}
-use Rattle.reordered_tree_laws.specs.Moving.{AreMovedTexts, AreMovedTo}
+use Rattle.scope_bind.specs.Moved.{AreMovedTexts}
+use Rattle.reordered_tree_laws.specs.Moving.{AreMovedTo}
 use Rattle.reordered_tree_laws.proofs.Arranged.{length-leaves}
 use Rattle.reordered_tree_laws.proofs.SameForms.{arranged_leaves}
 

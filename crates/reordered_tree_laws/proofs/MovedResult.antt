@@ -11,8 +11,9 @@ use Rattle.scope_bind.specs.declared.bound.Name.{Name}
 use Rattle.scope_bind.specs.Named.{Declaration, Occurrence}
 use Rattle.scope_bind.specs.Bound.{declaration_at, name_of, names_of}
 use Rattle.scope_bind.specs.Names.{name_at, entity_at, declares_at, kind_at, linkage_at}
-use Rattle.reordered_tree_laws.specs.Moving.{AreToldAlike, moved_occurrence, GoTogether, AreMovedTexts}
-use Rattle.reordered_tree_laws.proofs.MovedFacts.{same_number}
+use Rattle.scope_bind.specs.Moved.{moved_occurrence, AreMovedTexts}
+use Rattle.reordered_tree_laws.specs.Moving.{AreToldAlike, GoTogether}
+use Rattle.scope_bind.proofs.MovedSpaces.{same_number}
 
 -- ---- The first of a list
 

@@ -16,9 +16,10 @@ use Rattle.scope_bind.specs.Named.{Frame, Role}
 use Rattle.scope_bind.specs.Ordinary.{is_func}
 use Rattle.scope_bind.specs.Roles.{role_if, role_of}
 use Rattle.scope_bind.specs.Walk.{facts_at, found_at, position_at, passed_as, passed}
-use Rattle.reordered_tree_laws.specs.Moving.{moved_type, moved_frame, GoTogether, FramesGo, StatesGo, AreMovedTexts}
+use Rattle.scope_bind.specs.Moved.{moved_type, moved_frame, AreMovedTexts}
+use Rattle.reordered_tree_laws.specs.Moving.{GoTogether, FramesGo, StatesGo}
 use Rattle.reordered_tree_laws.proofs.MovedFacts.{further, further_ahead, jump_moves}
-use Rattle.reordered_tree_laws.proofs.MovedTypes.{target_moved, unknown_same}
+use Rattle.scope_bind.proofs.MovedTypes.{target_moved, unknown_same}
 use Rattle.reordered_tree_laws.proofs.MovedNames.{ScopeGoes, used_moves, used_type_moved, func_same, named_moves, named_type_moved, declared_moves, tag_moves, tag_type_moved, enumeration_moves, enumeration_type_moved}
 use Rattle.reordered_tree_laws.proofs.MovedMembers.{member_used_moves, member_type_moved, designated_moves, designated_type_moved, designated_position_moved, label_moves}
 

@@ -14,7 +14,8 @@ use Rattle.c_types.specs.Trees.{is_node, is_at, is_list, last_token, first_token
 use Rattle.tree_laws.specs.TreesOfTexts.{token_count, AreFrom}
 use Rattle.reordered_tree_laws.specs.Reordered.{numbered}
 use Rattle.reordered_tree_laws.specs.Seen.{are_parts}
-use Rattle.reordered_tree_laws.specs.Moving.{AreMovedTo, AreMovedTexts}
+use Rattle.scope_bind.specs.Moved.{AreMovedTexts}
+use Rattle.reordered_tree_laws.specs.Moving.{AreMovedTo}
 
 -- The second children are those of the first, as far as declarations see them, with tokens at their new places; the first
 -- list is asked for only where it is known.

@@ -10,7 +10,8 @@ use Rattle.scope_bind.specs.Named.{Fault}
 use Rattle.scope_bind.specs.Bound.{Bound, bound_of, bound_unless, facts_of, binding_of}
 use Rattle.tree_laws.proofs.HeldNames.{bound_is}
 use Rattle.tree_laws.proofs.RenamedWalk.{no_fault}
-use Rattle.reordered_tree_laws.specs.Moving.{StatesGo, AreMovedTexts}
+use Rattle.scope_bind.specs.Moved.{AreMovedTexts}
+use Rattle.reordered_tree_laws.specs.Moving.{StatesGo}
 use Rattle.reordered_tree_laws.proofs.MovedTrees.{AreSpans}
 use Rattle.reordered_tree_laws.proofs.MovedEntering.{both_ways}
 

@@ -19,9 +19,10 @@ use Rattle.tree_laws.proofs.TokenEnds.{begins_some, last_none as no_last}
 use Rattle.reordered_tree_laws.specs.Reordered.{is_among, numbered}
 use Rattle.reordered_tree_laws.specs.Seen.{are_parts}
 use Rattle.reordered_tree_laws.specs.Premises.{is_items, is_bracketed, asks_sign, stands_in, declares_type, has_outer_list, is_fit_child, is_fit}
-use Rattle.reordered_tree_laws.specs.Moving.{moved_frame, IsAhead, FramesGo, StatesGo, AreMovedTexts, AreMovedTo, PartsMoveAlike}
+use Rattle.scope_bind.specs.Moved.{moved_frame, AreMovedTexts}
+use Rattle.reordered_tree_laws.specs.Moving.{IsAhead, FramesGo, StatesGo, AreMovedTo, PartsMoveAlike}
 use Rattle.reordered_tree_laws.proofs.MovedFacts.{further_ahead}
-use Rattle.reordered_tree_laws.proofs.MovedTypes.{asks_front, is_type_name}
+use Rattle.scope_bind.proofs.MovedTypes.{asks_front, is_type_name}
 use Rattle.reordered_tree_laws.proofs.MovedTrees.{seen_numbered, spans_moved, last_at}
 use Rattle.reordered_tree_laws.proofs.MovedTokens.{token_goes}
 use Rattle.reordered_tree_laws.proofs.MovedEntering.{ArePlaced, asks_word, is_body, entered_moves}

@@ -18,7 +18,7 @@ use Rattle.list_cuts.specs.Cuts.{IsOrder}
 use Rattle.tree_laws.proofs.Outline.{Entry, Outline, stepped, begun, ended, outlined, token_agrees, node_agrees, all_agree}
 use Rattle.reordered_tree_laws.specs.Reordered.{nodes_in, is_parenthesised, is_among, permuted, numbered}
 use Rattle.reordered_tree_laws.specs.Premises.{is_items, is_bracketed, has_outer_list, is_item_production}
-use Rattle.reordered_tree_laws.specs.Moving.{AreMovedTexts}
+use Rattle.scope_bind.specs.Moved.{AreMovedTexts}
 use Rattle.reordered_tree_laws.proofs.MovedHeads.{count_permuted}
 use Rattle.reordered_tree_laws.specs.BareNames.{HasBareName, HaveBareNames}
 use Rattle.reordered_tree_laws.proofs.OutlineSteps.{OutlinesGo, token_steps}

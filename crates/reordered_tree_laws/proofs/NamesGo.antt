@@ -22,7 +22,8 @@ use Rattle.tree_laws.proofs.Outline.{Entry, Outline, added, is_listing, stepped,
 use Rattle.reordered_tree_laws.specs.Reordered.{nodes_in, shuffled, is_parenthesised, is_among, permuted, numbered}
 use Rattle.reordered_tree_laws.specs.Cuts.{cut_then}
 use Rattle.reordered_tree_laws.specs.Premises.{is_items, has_outer_list, is_item_production}
-use Rattle.reordered_tree_laws.specs.Moving.{IsAhead, AreMovedTexts}
+use Rattle.scope_bind.specs.Moved.{AreMovedTexts}
+use Rattle.reordered_tree_laws.specs.Moving.{IsAhead}
 use Rattle.reordered_tree_laws.proofs.SameForms.{same-cut, same-numbered}
 use Rattle.reordered_tree_laws.proofs.MovedFacts.{further_ahead}
 use Rattle.reordered_tree_laws.proofs.MovedHeads.{count_permuted, heads_stay}

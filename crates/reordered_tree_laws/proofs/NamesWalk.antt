@@ -15,7 +15,7 @@ use Rattle.list_cuts.specs.Cuts.{IsOrder}
 use Rattle.tree_laws.proofs.Outline.{Entry, Outline, stepped, begun, ended, outlined}
 use Rattle.reordered_tree_laws.specs.Reordered.{nodes_in, is_parenthesised, is_among, permuted, numbered}
 use Rattle.reordered_tree_laws.specs.Premises.{is_items, is_spaced, is_bracketed, has_outer_list, is_item_production}
-use Rattle.reordered_tree_laws.specs.Moving.{AreMovedTexts}
+use Rattle.scope_bind.specs.Moved.{AreMovedTexts}
 use Rattle.reordered_tree_laws.proofs.MovedHeads.{count_permuted}
 use Rattle.reordered_tree_laws.proofs.Answered.{EntriesGo}
 use Rattle.reordered_tree_laws.proofs.OutlineSteps.{OutlinesGo, outlines_at, unkept, token_steps}

@@ -13,7 +13,8 @@ use Rattle.scope_bind.specs.Named.{Frame}
 use Rattle.tree_laws.specs.TreesOfTexts.{token_count}
 use Rattle.list_cuts.specs.Cuts.{done, IsOrder}
 use Rattle.reordered_tree_laws.specs.Reordered.{nodes_in, is_among, permuted, numbered}
-use Rattle.reordered_tree_laws.specs.Moving.{AreMovedTexts, AreMovedTo}
+use Rattle.scope_bind.specs.Moved.{AreMovedTexts}
+use Rattle.reordered_tree_laws.specs.Moving.{AreMovedTo}
 use Rattle.reordered_tree_laws.specs.Premises.{is_items, is_spaced, lists_pass, is_item, are_two_apart, are_apart}
 use Rattle.reordered_tree_laws.specs.Lasting.{tags_pass}
 use Rattle.reordered_tree_laws.specs.Siblings.{tags_follow, has_signs}

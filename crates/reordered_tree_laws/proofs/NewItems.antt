@@ -13,7 +13,8 @@ use Rattle.tree_laws.specs.TreesOfTexts.{token_count}
 use Rattle.list_cuts.specs.Cuts.{IsOrder}
 use Rattle.reordered_tree_laws.specs.Reordered.{is_among, permuted, numbered}
 use Rattle.reordered_tree_laws.specs.Premises.{is_items}
-use Rattle.reordered_tree_laws.specs.Moving.{AreMovedTexts, AreMovedTo}
+use Rattle.scope_bind.specs.Moved.{AreMovedTexts}
+use Rattle.reordered_tree_laws.specs.Moving.{AreMovedTo}
 use Rattle.reordered_tree_laws.proofs.SameForms.{count-numbered}
 use Rattle.reordered_tree_laws.proofs.MovedTrees.{AreSpans}
 use Rattle.reordered_tree_laws.proofs.MovedHeads.{count_permuted}

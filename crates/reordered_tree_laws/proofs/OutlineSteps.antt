@@ -13,7 +13,8 @@ use Rattle.name_chains.specs.Entering.{inner, is_scoped, scope_in}
 use Rattle.scope_bind.specs.Named.{Scope}
 use Rattle.tree_laws.proofs.Outline.{Entry, entry, Outline, added, is_listing, token_entries, stepped, entries_in, kept_entries, begun, named_entries, in_declaration, in_parameter, entries_after, ended}
 use Rattle.reordered_tree_laws.specs.Premises.{stands_in}
-use Rattle.reordered_tree_laws.specs.Moving.{IsAhead, AreMovedTexts}
+use Rattle.scope_bind.specs.Moved.{AreMovedTexts}
+use Rattle.reordered_tree_laws.specs.Moving.{IsAhead}
 use Rattle.reordered_tree_laws.proofs.MovedFacts.{further_ahead}
 use Rattle.reordered_tree_laws.proofs.MovedTrees.{AreSeenMoved}
 use Rattle.reordered_tree_laws.proofs.MovedEntering.{ArePlaced, is_body, last_zero, before_last, before_end}

@@ -13,7 +13,8 @@ use Rattle.list_cuts.specs.Cuts.{Cut, IsOrder, AreOf}
 use Rattle.tree_laws.proofs.Outline.{Entry, Outline}
 use Rattle.reordered_tree_laws.specs.Reordered.{nodes_in, refilled, no_node, picked_nodes, shuffled, is_among, permuted, numbered}
 use Rattle.reordered_tree_laws.specs.Cuts.{list_then}
-use Rattle.reordered_tree_laws.specs.Moving.{IsAhead, AreMovedTexts, AreMovedTo}
+use Rattle.scope_bind.specs.Moved.{AreMovedTexts}
+use Rattle.reordered_tree_laws.specs.Moving.{IsAhead, AreMovedTo}
 use Rattle.reordered_tree_laws.proofs.Arranged.{count-items}
 use Rattle.reordered_tree_laws.proofs.SameForms.{nodes_permute}
 use Rattle.reordered_tree_laws.proofs.Answered.{Ask, open_at, of_list, at_depth, kind_among, kind_append, moved_ask, IsWanted, EntriesGo}

@@ -20,7 +20,8 @@ use Rattle.reordered_tree_laws.specs.Reordered.{nodes_in, is_among, permuted}
 use Rattle.reordered_tree_laws.specs.Cuts.{cut_then, items_in}
 use Rattle.reordered_tree_laws.specs.Adding.{is_adding}
 use Rattle.reordered_tree_laws.specs.Premises.{is_items, is_spaced, is_bracketed, has_outer_list, is_fit_child, is_fit, lists_pass, is_item_production, has_typedef_word, is_item, is_quiet, declared_name, asked_in, is_unasked_in, are_two_apart, are_apart}
-use Rattle.reordered_tree_laws.specs.Moving.{AreMovedTexts, AreMovedTo}
+use Rattle.scope_bind.specs.Moved.{AreMovedTexts}
+use Rattle.reordered_tree_laws.specs.Moving.{AreMovedTo}
 use Rattle.reordered_tree_laws.proofs.Arranged.{cut_all, items_all}
 use Rattle.reordered_tree_laws.proofs.MovedHeads.{cut_front, count_permuted}
 use Rattle.reordered_tree_laws.proofs.MovedWalk.{IsFitNode, fit_child, fit_shape}

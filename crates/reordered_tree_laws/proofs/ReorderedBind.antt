@@ -23,7 +23,8 @@ use Rattle.list_cuts.specs.Cuts.{Cut, moved, IsOrder}
 use Rattle.list_cuts.proofs.CutLemmas.{length-arranged}
 use Rattle.reordered_tree_laws.specs.Reordered.{permuted, numbered, reordered}
 use Rattle.reordered_tree_laws.specs.Cuts.{cut_in}
-use Rattle.reordered_tree_laws.specs.Moving.{GoTogether, StatesGo, AreMovedTexts, AreMovedTo}
+use Rattle.scope_bind.specs.Moved.{AreMovedTexts}
+use Rattle.reordered_tree_laws.specs.Moving.{GoTogether, StatesGo, AreMovedTo}
 use Rattle.reordered_tree_laws.specs.Premises.{tags_in, ReorderedBindAlike}
 use Rattle.reordered_tree_laws.proofs.MovedTrees.{AreSpans}
 use Rattle.reordered_tree_laws.proofs.MovedHeads.{lowest_stays}

@@ -14,7 +14,8 @@ use Rattle.tree_laws.proofs.Outline.{Outline, all_agree}
 use Rattle.tree_laws.proofs.Outlines.{outline, agrees_same}
 use Rattle.reordered_tree_laws.specs.Reordered.{permuted, numbered}
 use Rattle.reordered_tree_laws.specs.Cuts.{cut_in}
-use Rattle.reordered_tree_laws.specs.Moving.{AreMovedTexts, AreMovedTo}
+use Rattle.scope_bind.specs.Moved.{AreMovedTexts}
+use Rattle.reordered_tree_laws.specs.Moving.{AreMovedTo}
 use Rattle.reordered_tree_laws.proofs.MovedTrees.{AreSpans}
 use Rattle.reordered_tree_laws.proofs.MovedHeads.{lowest_stays}
 use Rattle.reordered_tree_laws.proofs.MovedPlaces.{moved-beyond, tokens_moved, texts_moved}

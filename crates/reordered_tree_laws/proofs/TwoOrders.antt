@@ -8,7 +8,8 @@ use Rattle.std.proofs.lemmas.List.Elements.{filter-append, All-head, All-tail}
 use Rattle.cs_base.specs.Token.{Token}
 use Rattle.scope_bind.specs.Named.{Declaration, Occurrence}
 use Rattle.list_cuts.specs.Cuts.{numbers, IsOrder}
-use Rattle.reordered_tree_laws.specs.Moving.{AreMoved, moved_occurrence}
+use Rattle.scope_bind.specs.Moved.{moved_occurrence}
+use Rattle.reordered_tree_laws.specs.Moving.{AreMoved}
 use Rattle.reordered_tree_laws.proofs.MovedLists.{append_moved}
 use Rattle.reordered_tree_laws.specs.Siblings.{Gain, gained, noted}
 use Rattle.reordered_tree_laws.proofs.Stacks.{stacked, IsOneAtMost, in_order, numbered_all}

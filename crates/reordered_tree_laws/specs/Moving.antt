@@ -3,14 +3,12 @@
 use Rattle.std.specs.Prelude.{ℕ, ◌+◌, ◌≤◌, ◌≡◌, ◌==◌, ◌⊎◌, Bool, true, false, ◌&&◌, not, nat_lt, List, [], ◌∷◌, filter, find, map, is_some, Option, None, Some}
 use Rattle.std.specs.Option.{option_map}
 use Rattle.cs_base.specs.Token.{Token}
-use Rattle.c_types.specs.declared.types.Base.{Base}
-use Rattle.c_types.specs.declared.types.Base.TheVariants.{Structure, Union, Enumeration}
-use Rattle.c_types.specs.declared.declarations.Space.TheVariants.{Ordinary, Tags, Members, Inner, Unnamed, Labels}
-use Rattle.c_types.specs.Types.{CType}
-use Rattle.c_types.specs.Declarations.{Facts, has_linkage, is_in, is_live, is_named, is_space, spelling_at}
+use Rattle.c_types.specs.declared.declarations.Space.TheVariants.{Members, Inner, Unnamed}
+use Rattle.c_types.specs.Declarations.{Facts, has_linkage, is_in, is_live, is_named, is_space}
 use Rattle.name_chains.specs.Entering.{is_member}
 use Rattle.name_chains.specs.Frames.{State}
-use Rattle.scope_bind.specs.Named.{Space, Declaration, Occurrence, Body, Frame, ordinary, tags, labels}
+use Rattle.scope_bind.specs.Named.{Space, Declaration, Occurrence, Frame, ordinary, tags, labels}
+use Rattle.scope_bind.specs.Moved.{moved_occurrence, moved_frame, IsMoved, AreMovedTexts}
 use Rattle.c99_tree.specs.Tree.{Forest, none, token, node}
 use Rattle.scope_bind.specs.Walk.{walked}
 use Rattle.tree_laws.specs.TreesOfTexts.{token_count, AreFrom, have_forms}
@@ -20,64 +18,10 @@ use Rattle.reordered_tree_laws.specs.Premises.{is_fit}
 -- ---- What is moved along
 
 module _ (m : ℕ → ℕ) where
-  abbrev pub moved_base : Base → Base
-  moved_base (Structure n) = Structure (m n)
-  moved_base (Union n) = Union (m n)
-  moved_base (Enumeration n) = Enumeration (m n)
-  moved_base b = b
-
-  abbrev pub moved_type : CType → CType
-  moved_type t = record { base = moved_base t.base; derivations = t.derivations }
-
-  abbrev pub moved_space : Space → Space
-  moved_space Ordinary = Ordinary
-  moved_space Tags = Tags
-  moved_space (Members n) = Members (m n)
-  moved_space (Inner n) = Inner (m n)
-  moved_space (Unnamed n) = Unnamed (m n)
-  moved_space (Labels n) = Labels (m n)
-
-  abbrev pub moved_body : Body → Body
-  moved_body b = record { from = m b.from; to = m b.to }
-
-  abbrev pub moved_occurrence : Occurrence → Occurrence
-  moved_occurrence o = record { index = m o.index; entity = m o.entity; declares = o.declares }
-
-  -- the frame, but for its last token, the end of its scope and the list that a body may begin with
-  abbrev pub moved_frame : ℕ → ℕ → Option ℕ → Frame → Frame
-  moved_frame at to kept f = record {
-    label = f.label;
-    nth = f.nth;
-    token = at;
-    scope = record { depth = f.scope.depth; to = to };
-    body = option_map moved_body f.body;
-    listing = f.listing;
-    alone = f.alone;
-    has_body = f.has_body;
-    base = moved_type f.base;
-    words = f.words;
-    kept = kept;
-    owner = m f.owner;
-    given = moved_type f.given;
-    found = moved_type f.found;
-    position = f.position;
-  }
-
-  -- the second declaration is the first one at its moved place; their ranges may differ
-  pub record IsMoved (d e : Declaration) : Type 0 where
-    pub space : e.space ≡ moved_space d.space
-    pub name_at : e.name_at ≡ m d.name_at
-    pub entity : e.entity ≡ m d.entity
-    pub kind : e.kind ≡ d.kind
-    pub linkage : e.linkage ≡ d.linkage
-    pub ctype : e.ctype ≡ moved_type d.ctype
-    pub depth : e.depth ≡ d.depth
-    pub listed : e.listed ≡ d.listed
-
-  -- so many declarations, each of which is so moved
+  -- so many declarations, each of which is moved
   abbrev pub AreMoved : List Declaration → List Declaration → Type 0
   AreMoved [] [] = Unit {0}
-  AreMoved (d ∷ ds) (e ∷ es) = IsMoved d e × AreMoved ds es
+  AreMoved (d ∷ ds) (e ∷ es) = IsMoved m d e × AreMoved ds es
   AreMoved _ _ = ⊥
 
 -- both are there, of one kind and linkage, or neither is
@@ -185,12 +129,6 @@ module _ (m : ℕ → ℕ) (old new : List Token) where
   pub record StatesGo (own keeps : Bool) (lo there : ℕ) (s t : State) : Type 0 where
     pub facts : GoTogether lo there s.facts t.facts
     pub frame : FramesGo own keeps lo there s.frame t.frame
-
--- Token i of the one text is token `m i` of the other, which is spelled so; no two go to one place, and the first one stays.
-pub record AreMovedTexts (m : ℕ → ℕ) (old new : List Token) : Type 0 where
-  pub first : m 0 ≡ 0
-  pub apart : (i j : ℕ) → m i ≡ m j → i ≡ j
-  pub spelled : (k : ℕ) → spelling_at new (m k) ≡ spelling_at old k
 
 -- The tokens below some children are moved to those from this number on, one after another.
 abbrev pub AreMovedTo : (ℕ → ℕ) → ℕ → Forest → Type 0

@@ -9,6 +9,8 @@ pub mod Walk
 pub mod Bound
 pub mod Names
 pub mod Named
+pub mod Moved
+pub mod Carried
 -- Words of lower floors.
 pub mod Below
 -- What inner functions promise each other.

@@ -7,7 +7,7 @@ ghost use Rattle.c_types.specs.Faults.{fault_of};
 ghost use Rattle.scope_bind.specs.Bound.{range_of, typedefs_of, bound_of, bound_after, facts_of, binding_of};
 ghost use Rattle.c_types.specs.Declarations.{is_typedef_name};
 ghost use Rattle.scope_bind.specs.Known.{known};
-ghost use Rattle.c99_tree.specs.Joined.{joined, followed};
+ghost use Rattle.c99_tree.specs.Joined.{joined};
 
 use crate::bound::{Bound, Told};
 use crate::facts::Facts;
@@ -81,26 +81,6 @@ fn facts_of<'a>(
     let mut frame = outermost(alloc, count_of(toks)?);
     let mut facts = Facts::new(alloc, toks)?;
     walk(&mut facts, alloc, tree, &mut frame, shown)?;
-    Ok(facts)
-}
-
-// The same of a unit whose tree is told in two parts.
-fn facts_behind<'a>(
-    alloc: Global,
-    toks: &'a [Tok],
-    front: &Tree,
-    rest: &Tree,
-    shown: &mut Shown,
-) -> Result<Facts<'a>, Memory>
-    ensures facts { IfOk result (λ f. f ≡ known toks.now (facts_of toks.now (joined front.now.under rest.now.under))) }
-    ensures lists { OnOk result (shown.new.lists.items ≡ shown.old.lists.items ++ lists_in (joined front.now.under rest.now.under)) }
-    ensures calls { OnOk result (shown.new.calls.items ≡ shown.old.calls.items ++ calls_in (joined front.now.under rest.now.under)) }
-    ensures bare { OnOk result (shown.new.bare.items ≡ shown.old.bare.items ++ bare_in (joined front.now.under rest.now.under)) }
-{
-    let mut frame = outermost(alloc, count_of(toks)?);
-    let mut facts = Facts::new(alloc, toks)?;
-    walk(&mut facts, alloc, front, &mut frame, shown)?;
-    walk(&mut facts, alloc, rest, &mut frame, shown)?;
     Ok(facts)
 }
 
@@ -275,18 +255,4 @@ pub fn bind(alloc: Global, toks: &[Tok], tree: &Tree) -> Result<Bound, BindRefus
     let mut shown = Shown::new(alloc);
     let facts = facts_of(alloc, toks, tree, &mut shown)?;
     bound_unless(alloc, tree, &facts, shown)
-}
-
-/// The same of a unit whose tree is told in two parts: its first external declarations, and the others.
-pub fn bind_behind(
-    alloc: Global,
-    toks: &[Tok],
-    front: &Tree,
-    rest: &Tree,
-) -> Result<Bound, BindRefusal>
-    ensures answer { Gives (λ b. b) fault_of result (binding_of toks.now (followed front.now rest.now)) }
-{
-    let mut shown = Shown::new(alloc);
-    let facts = facts_behind(alloc, toks, front, rest, &mut shown)?;
-    bound_behind(alloc, front, rest, &facts, shown)
 }

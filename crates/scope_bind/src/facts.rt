@@ -1,5 +1,5 @@
 // What is known once a part of a unit is read.
-ghost use Rattle.std.specs.Prelude.{◌≡◌, [], filter, map, reverse, slice_get, IfOk, OnOk, Some};
+ghost use Rattle.std.specs.Prelude.{◌≡◌, [], filter, map, reverse, slice_get, true, IfOk, OnOk, Some};
 ghost use Rattle.std.specs.Option.{option_map};
 ghost use Rattle.c_types.specs.Faults.{number_of, comes_first, first_fault};
 ghost use Rattle.c_types.specs.Declarations.{no_facts, is_in, with_fault, with_occurrence, with_declaration, with_begun, with_complete, looked_up, visible, in_scope, anywhere, linked, is_mixed};
@@ -132,7 +132,7 @@ impl<'a> Facts<'a> {
     }
 
     /// A declaration more, which no identifier of its own declares.
-    pub(crate) fn add(&mut self, d: Declaration) -> Result<(), Memory>
+    pub fn add(&mut self, d: Declaration) -> Result<(), Memory>
         ensures { OnOk result (self.new ≡ known self.old.toks (with_silent d self.old.facts)) }
     {
         self.chains.push(d)
@@ -179,14 +179,35 @@ impl<'a> Facts<'a> {
     }
 
     /// The declarations, the first one first.
-    pub(crate) fn declared(&self) -> &[Declaration]
+    pub fn declared(&self) -> &[Declaration]
         ensures { reverse result.now ≡ self.now.facts.declared }
     {
         self.chains.declared()
     }
 
+    /// The entities whose braces have been read.
+    pub fn begun(&self) -> &[u32]
+        ensures { result.now ≡ self.now.facts.begun }
+    {
+        self.begun.as_slice()
+    }
+
+    /// The structures, unions and enumerations that are complete.
+    pub fn completed(&self) -> &[u32]
+        ensures { result.now ≡ self.now.facts.complete }
+    {
+        self.complete.as_slice()
+    }
+
+    /// No `goto` waits for its label.
+    pub fn has_no_jump(&self) -> bool
+        ensures { result ≡ true → self.now.facts.jumps ≡ [] }
+    {
+        self.jumps.is_empty()
+    }
+
     /// What is bound, the first one first.
-    pub(crate) fn occurrences(&self) -> &[Occurrence]
+    pub fn occurrences(&self) -> &[Occurrence]
         ensures { reverse result.now ≡ self.now.facts.occurrences }
     {
         self.occurrences.as_slice()

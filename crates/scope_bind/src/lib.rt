@@ -5,8 +5,9 @@
 //! the argument lists of calls; the bodies; and names that are parameters only since they are no typedef
 //! names. It is `binding_of` of `specs/Bound.antt`, a walk over the tree in which each declaration has
 //! its range of tokens, or the first of seven faults. Types are followed as far as members need them.
-//! `bind_behind` binds a unit whose tree is told in two parts. A binding is told by indices and holds no spelling, so a renamed text binds to the same value: that is
-//! a law of `tree_laws`. This crate knows neither how a tree is read nor macros, files or classes. Spellings,
+//! A binding is told by indices and holds no spelling, so a renamed text binds to the same value: that is a law of
+//! `tree_laws`. What is known behind the beginning of a text goes along to each text that begins so, `specs/Carried.antt`: `gnu_bind`
+//! binds by that. This crate knows neither how a tree is read nor macros, files or classes. Spellings,
 //! declarations, names and types want memory. What a tree says without a scope is in `c_types`, which of the
 //! declarations a name may denote in `name_chains`. The steps of the walk are public, for a walk over units of
 //! another dialect. Read `specs/Declarations.antt` of `c_types`, then
@@ -35,7 +36,7 @@ mod roles;
 mod tags;
 mod walking;
 
-pub use binding::{bind, bind_behind, bound_behind, bound_unless, count_of, outermost};
+pub use binding::{bind, bound_behind, bound_unless, count_of, outermost};
 pub use bound::{Bound, Name};
 pub use c_types::{
     BindRefusal, EntityKind, Indices, Linkage, List, ParameterForm, ParameterList, ParameterNames,
@@ -46,3 +47,4 @@ pub use facts::Facts;
 pub use initializers::position_after;
 pub use ordinary::Declared;
 pub use roles::{Role, role_of};
+pub use walking::walk;

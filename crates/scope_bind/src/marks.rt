@@ -67,4 +67,10 @@ impl Marks {
             None => false,
         }
     }
+
+    pub(crate) fn as_slice(&self) -> &[u32]
+        ensures { result.now ≡ self.now }
+    {
+        self.numbers.as_slice()
+    }
 }

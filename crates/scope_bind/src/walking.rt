@@ -39,7 +39,7 @@ fn pass(facts: &mut Facts<'_>, alloc: Global, i: u32, f: &mut Frame) -> Result<(
 /// stands in functions that have returned before the walk goes down. What the tree tells by itself is told on the way,
 /// since a large tree costs mostly the time in which its memory comes.
 #[cycle(walk)]
-pub(crate) fn walk(
+pub fn walk(
     facts: &mut Facts<'_>,
     alloc: Global,
     tree: &Tree,

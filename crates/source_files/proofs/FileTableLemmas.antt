@@ -72,7 +72,7 @@ absent-slot paths slots (suc n) each some =
 
 -- ---- the path of a number
 
-path-from : (paths : List (List ℕ)) (slots : List Slot) (i : ℕ) → length slots ≡ length paths
+pub path-from : (paths : List (List ℕ)) (slots : List Slot) (i : ℕ) → length slots ≡ length paths
     → option_map (λ e. e.path) (slice_get (entries_of paths slots) i) ≡ slice_get paths i
 path-from [] slots i each = refl
 path-from (p ∷ paths) [] i each = absurd (omega (arith, each))

@@ -1,6 +1,7 @@
 pub mod TableLemmas
 pub mod AgreeLemmas
 pub mod FileTableLemmas
+pub mod MadeLemmas
 pub mod OpenedLemmas
 pub mod EditedLemmas
 pub mod OpeningLemmas

@@ -89,6 +89,16 @@ abbrev pub opened_bytes : Found → Option (List ℕ)
 opened_bytes (Opened bytes) = Some bytes
 opened_bytes _ = None
 
+-- a pseudo file with this text
+abbrev pub is_made : List ℕ → Found → Bool
+is_made text (Made bytes) = bytes_eq bytes text
+is_made text _ = false
+
+-- the path of the first pseudo file with this text, if there is one
+unfoldable pub made_path : List ℕ → Table → Option (List ℕ)
+made_path text [] = None
+made_path text (e ∷ table) = if is_made text e.found then Some e.path else made_path text table
+
 -- how many files and bytes one more makes
 abbrev pub one_more : Option (List ℕ) → ℕ → ℕ
 one_more None count = count

@@ -1,10 +1,11 @@
 // The table of files: what is known of each path that has a number.
-ghost use Rattle.std.specs.Prelude.{◌≡◌, ◌∷◌, [], false, None, is_some, IfSome, OnOk, OnErr, IsSome, option_copied, length, slice_get, true, Err, IfErr, is_ok};
+ghost use Rattle.std.specs.Prelude.{◌≡◌, ◌<◌, ◌∷◌, [], false, None, is_some, IfSome, OnOk, OnErr, IsSome, option_copied, length, slice_get, true, Err, IfErr, is_ok};
+ghost use Rattle.std.specs.List.{position};
 ghost use Rattle.std.specs.Option.{option_map};
 ghost use Rattle.std.specs.Str.{bytes_eq, is_utf8};
 ghost use Rattle.lexer.specs.FileText.{file_text};
 ghost use Rattle.lexer.specs.Refusal.{fault_of};
-ghost use Rattle.source_files.specs.Files.{lines_path, Lines, absent_at, entry, found_at, is_absent_at, number_of, number_at, numbered, opened};
+ghost use Rattle.source_files.specs.Files.{lines_path, Lines, absent_at, entry, found_at, is_absent_at, is_made, made_path, number_of, number_at, numbered, opened};
 ghost use Rattle.source_files.specs.Edited.{edited, size_at};
 ghost use Rattle.source_files.specs.KeptFiles.{kept_at};
 ghost use Rattle.source_files.specs.Tables.{AreText, BeginsWithLines, HasEachOnce};
@@ -32,6 +33,14 @@ fn is_lines(path: &[u8]) -> bool
     ensures { result ≡ bytes_eq path.now lines_path }
 {
     path == LINES_PATH
+}
+
+// The place of the first pseudo file with this text.
+fn made_at(slots: &[Slot], text: &[u8]) -> Option<usize>
+    ensures answer { result ≡ position (λ s. is_made text.now (found_of s)) slots.now }
+    ensures within { IfSome result (λ i. i < length slots.now) }
+{
+    slots.iter().position(|slot| slot.is_made(text))
 }
 
 impl Model for FileTable {
@@ -121,6 +130,17 @@ impl FileTable {
             slots[i].is_absent()
         } else {
             false
+        }
+    }
+
+    // The path of the first pseudo file with this text, if there is one.
+    pub(crate) fn made(&self, text: &[u8]) -> Option<&[u8]>
+        ensures answer { option_copied result ≡ made_path text.now self.now }
+        ensures other { IfSome (made_path text.now self.now) (λ path. bytes_eq path lines_path ≡ false) }
+    {
+        match made_at(self.slots.as_slice(), text) {
+            Some(i) => self.path(i as u32 + 1),
+            None => None,
         }
     }
 

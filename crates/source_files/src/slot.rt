@@ -1,7 +1,7 @@
 // What a number stands for.
 ghost use Rattle.std.specs.Prelude.{◌≡◌, true, IfErr, IfSome, IsSome, Err, OnOk, OnErr, is_ok, length, option_copied};
 ghost use Rattle.std.specs.Option.{option_map};
-ghost use Rattle.source_files.specs.Files.{is_absent, opened_bytes};
+ghost use Rattle.source_files.specs.Files.{is_absent, is_made, opened_bytes};
 ghost use Rattle.lexer.specs.FileText.{file_text};
 ghost use Rattle.lexer.specs.Refusal.{fault_of};
 
@@ -41,6 +41,16 @@ impl Slot {
     {
         match self {
             Slot::Absent => true,
+            _ => false,
+        }
+    }
+
+    // It is a pseudo file with this text.
+    pub(crate) fn is_made(&self, text: &[u8]) -> bool
+        ensures { result ≡ is_made text.now (found_of self.now) }
+    {
+        match self {
+            Slot::Made(file) => file.bytes() == text,
             _ => false,
         }
     }

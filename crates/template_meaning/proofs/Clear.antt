@@ -31,6 +31,7 @@ use Rattle.offences.specs.First.{offence, standing}
 use Rattle.edited_unit_laws.proofs.ListLemmas.{In, map_nil, cons_nil, flat_nil}
 use Rattle.list_cuts.specs.Cuts.{numbers}
 use Rattle.template_rules.specs.Functions.{origin_of, place_of, holds_at, is_function, declares_function}
+use Rattle.template_rules.specs.GnuOffences.{gnu_offences}
 use Rattle.template_rules.specs.Insides.{inside_offences, list_insides, unit_insides, all_insides, all_macro_names}
 use Rattle.template_rules.specs.LineOffences.{odd_positions, is_odd_by, odd_place, odd_places}
 use Rattle.template_rules.specs.Lists.{parameters_at, parameters_of, arguments_of, separators, each_mark, count_of}
@@ -96,7 +97,7 @@ module _ (source : Source) (ws : WorkspaceValue) (a : AnalysisValue) (members : 
   no_gnu = no_gnu_places source ws a members order h
 
   abbrev last : List Offence
-  last = standing cause.AssemblerText (gnu_places a)
+  last = gnu_offences members a
 
   behind_names : marks ++ (all_macro_names members a ++ (all_insides members a ++ (all_lists members a ++ last))) ≡ []
   behind_names = nil_right (all_names members a) (marks ++ (all_macro_names members a ++ (all_insides members a ++ (all_lists members a ++ last)))) no_offence

@@ -4,6 +4,7 @@ use Rattle.std.specs.Prelude.{slice_get}
 use Rattle.cs_base.specs.Token.{Token}
 use Rattle.c99_grammar.specs.Dialects.{edition}
 use Rattle.tree_laws.specs.ReadTexts.{ReadParameterListsAreInOrder}
+use Rattle.macro_body.specs.declared.notes.Work.{Work}
 use Rattle.macro_body.specs.Hides.{toks_of, unhidden}
 use Rattle.unit_steps.specs.Below.macro_expand.Expansion.{whole, expansion}
 use Rattle.source_files.specs.Files.{SourceFile, Table}
@@ -39,7 +40,7 @@ standing limit [] w = absurd w
 standing limit (m ∷ []) w = absurd w
 standing limit (m ∷ k ∷ ms) w = w.0
 
-whole_of : (table : _) (path : List ℕ) (run : List Token) (work : ℕ) (e : _) → expansion table path run work ≡ Ok e → whole (record { table = table; path = path }) 0 0 (unhidden run) work ≡ Ok e
+whole_of : (table : _) (path : List ℕ) (run : List Token) (work : Work) (e : _) → expansion table path run work ≡ Ok e → whole (record { table = table; path = path }) 0 0 (unhidden run) work ≡ Ok e
 unfolding expansion
 whole_of table path run work e h = h
 

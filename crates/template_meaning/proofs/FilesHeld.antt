@@ -42,21 +42,21 @@ order_is_one source ws a members order h =
 
 -- ---- Lists of a file
 
-from_flat : {X Y : Type 0} (f : X → List Y) (y : Y) (xs : List X) → In y (flat_map f xs) → (x : X) × (In x xs × In y (f x))
+pub from_flat : {X Y : Type 0} (f : X → List Y) (y : Y) (xs : List X) → In y (flat_map f xs) → (x : X) × (In x xs × In y (f x))
 from_flat f y [] i = absurd (let at = i.1 in cc)
 from_flat {X = X} f y (x ∷ xs) i =
     split_at ((z : X) × (In z (x ∷ xs) × In y (f z))) y (f x) (flat_map f xs) i.0 i.1 (λ j. (x, ((0, refl), j)))
     (λ j. let r = from_flat f y xs j in let there = r.1.0 in (r.0, ((suc there.0, there.1), r.1.1)))
 
-first_of : {X : Type 0} (xs : List X) → (xs ≡ [] → ⊥) → (x : X) × In x xs
+pub first_of : {X : Type 0} (xs : List X) → (xs ≡ [] → ⊥) → (x : X) × In x xs
 first_of [] some = absurd (some refl)
 first_of (x ∷ xs) some = (x, (0, refl))
 
-none_in : (found : List FoundList) (number : ℕ) → flat_map (marks_in number) found ≡ [] → lists_in found number ≡ []
+pub none_in : (found : List FoundList) (number : ℕ) → flat_map (marks_in number) found ≡ [] → lists_in found number ≡ []
 unfolding with_lists
 none_in found number e = ap (λ (ls : List (List ℕ)). with_lists ls []) e
 
-in_file : (number : ℕ) (f : FoundList) (l : List ℕ) → In l (marks_in number f) → f.file ≡ number
+pub in_file : (number : ℕ) (f : FoundList) (l : List ℕ) → In l (marks_in number f) → f.file ≡ number
 in_file number f l i = by (f.file == number) refl i.0 i.1
   where
     by : (b : Bool) → (f.file == number) ≡ b → (k : ℕ) → slice_get (if b then f.marks ∷ [] else []) k ≡ Some l → f.file ≡ number

@@ -75,6 +75,7 @@ module _ (a : AnalysisValue) where
       items = λ number k evaluated before file i is at told.
           from_files StandsInFile h.text.after.table (λ n f s. file_toks_stand n f (source-grown h.text.after.table a.table n f h.grown s)) number k evaluated file i is at;
       lines = λ name run before more here spelled told direct. absurd (false≢true direct);
+      numbers = λ name n run before here low told direct. absurd (false≢true direct);
       answers = λ word b here told direct. absurd (false≢true direct);
       paths = λ path name here direct. absurd (false≢true direct);
       strings = λ name gap ts s here all is direct. absurd (false≢true direct);

@@ -13,6 +13,7 @@ use Rattle.c99_grammar.specs.declared.classes.Class.TheVariants.{Hash}
 use Rattle.c99_grammar.specs.Standard.{iso}
 use Rattle.line_shape.specs.Signs.{is_name, is_open, is_comma, is_close}
 use Rattle.line_shape.proofs.SignLemmas.{close-no_name, comma-no_name}
+use Rattle.macro_body.specs.declared.notes.Work.{Work}
 use Rattle.macro_body.specs.Hides.{Hidden, toks_of, unhidden}
 use Rattle.macro_body.specs.Notes.{Expanded}
 use Rattle.unit_steps.specs.Below.macro_expand.Expansion.{Setting, whole}
@@ -125,7 +126,7 @@ plain_signed out (m ∷ ms) h = (plain_by out is_open m open-no_name h.0, plain_
 
 -- ---- an item of a run
 
-module _ (alike : ExpansionsEndAlike) (set : Setting) (before : ℕ) (run : List Token) (work : ℕ) (e : Expanded) (distinct : AreDistinct run) (is : whole set 0 before (unhidden run) work ≡ Ok e) where
+module _ (alike : ExpansionsEndAlike) (set : Setting) (before : ℕ) (run : List Token) (work : Work) (e : Expanded) (distinct : AreDistinct run) (is : whole set 0 before (unhidden run) work ≡ Ok e) where
   abbrev out : List Token
   out = toks_of e.toks
 

@@ -8,7 +8,7 @@ pub mod Clear
 pub mod UnitLists
 -- What the proofs of this crate rest on.
 mod InnerTable
-mod Counted
+pub mod Counted
 mod Bare
 mod Bracketed
 mod Leading
@@ -32,7 +32,7 @@ mod Prototypes
 mod ExternalMoved
 pub mod TablesEdited
 mod EditsMade
-mod PlansKept
+pub mod PlansKept
 pub mod RefusalsOne
 mod NamesGoOn
 mod UnitsGoOn
@@ -63,3 +63,9 @@ pub mod EvenLists
 pub mod TextLists
 pub mod Moving
 pub mod Places
+-- What plans over units of GNU C rest on.
+pub mod TurnedTrees
+pub mod RealFiles
+pub mod KeptUnits
+pub mod KeptTables
+pub mod KeptOrders

@@ -53,6 +53,7 @@ use Rattle.template_rules.specs.Functions.{names_function}
 use Rattle.template_rules.specs.Lists.{separators, arguments_of, count_of}
 use Rattle.template_rules.specs.Lists as lists
 use Rattle.template_rules.specs.MacroOffences.{is_direct_at, is_line_number}
+use Rattle.unit_laws.specs.Walking.{is_line_word}
 use Rattle.template_rules.specs.Marks.{is_between}
 use Rattle.template_rules.specs.NameOffences.{is_prototype}
 use Rattle.template_meaning.specs.Accepted.{IsAccepted}
@@ -433,11 +434,11 @@ module _ (in_order : ReadParameterListsAreInOrder) (cuts : UnitsAreCut) (source 
           let across = any_of (λ (q : Reached). is_between l.name l.close q.before) u.text.reached r (in_of u.text.reached of_.0 r of_.1) here in
           absurd (false≢true (sym clear_.one_run ∙ across))
 
-  line_is : (k : EventKind) (d : Option _) (n : Option Token) (name : Token) → k ≡ kind.Replaced → d ≡ None → n ≡ Some name → name.text ≡ codes "__LINE__" → is_line_number k d n ≡ true
-  line_is kind.Replaced None (Some t) name a b c e = ap (λ (x : Token). bytes_eq x.text (codes "__LINE__")) (same_Some t name c) ∙ ap (λ (x : List ℕ). bytes_eq x (codes "__LINE__")) e
+  line_is : (k : EventKind) (d : Option _) (n : Option Token) (name : Token) → k ≡ kind.Replaced → d ≡ None → n ≡ Some name → is_line_word name.text ≡ true → is_line_number k d n ≡ true
+  line_is kind.Replaced None (Some t) name a b c e = ap (λ (x : Token). is_line_word x.text) (same_Some t name c) ∙ e
   line_is _ _ _ name a b c e = absurd (cc)
 
-  no_line : (e : Event) (name : Token) → IsIn u.text.events e → e.kind ≡ kind.Replaced → e.name ≡ Some name → e.def ≡ None → name.text ≡ codes "__LINE__" → in_lists 0 (run_cut members u) e.before ≡ false
+  no_line : (e : Event) (name : Token) → IsIn u.text.events e → e.kind ≡ kind.Replaced → e.name ≡ Some name → e.def ≡ None → is_line_word name.text ≡ true → in_lists 0 (run_cut members u) e.before ≡ false
   no_line e name of_ is_kind is_name is_def text = by (in_lists 0 (run_cut members u) e.before) refl
     where
       by : (b : Bool) → in_lists 0 (run_cut members u) e.before ≡ b → b ≡ false

@@ -19,3 +19,6 @@ pub mod Places
 pub mod Items
 pub mod Moves
 pub mod Even
+pub mod Matched
+pub mod Compared
+pub mod Below

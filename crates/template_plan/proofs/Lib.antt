@@ -1,3 +1,5 @@
+mod ComparedLemmas
 pub mod MeaningLemmas
 pub mod OnceLemmas
 mod PlanLemmas
+mod TreeLemmas

@@ -20,4 +20,5 @@ pub mod CalleeLemmas
 pub mod NameLemmas
 pub mod CoverLemmas
 pub mod ListLemmas
+pub mod GnuLemmas
 pub mod EditLemmas

@@ -26,6 +26,7 @@ use Rattle.template_rules.specs.declared.unit_functions.UnitFunctions.{UnitFunct
 use Rattle.offences.specs.Class.{ClassValue}
 use Rattle.template_rules.specs.FileLists.{unit_found}
 use Rattle.template_rules.specs.Functions.{AreFunctionsOf, declares_function, is_function, names_function}
+use Rattle.template_rules.specs.GnuOffences.{declared_text, unit_spellings}
 use Rattle.template_rules.specs.Insides.{list_insides, unit_insides, unit_macro_names}
 use Rattle.template_rules.specs.Lists.{declarator_of, declarators_in}
 use Rattle.template_rules.specs.MacroOffences.{replaced_place, pasted_place}
@@ -58,6 +59,9 @@ abbrev pub insides_of : UnitFunctions → List Offence
 insides_of f =
     flat_map (list_insides f.class.members f.text.now.toks f.text.now.events f.bound.now.names) f.bound.now.declarators
     ++ flat_map (list_insides f.class.members f.text.now.toks f.text.now.events f.bound.now.names) f.bound.now.calls
+
+abbrev pub spellings_of : UnitFunctions → List (List ℕ)
+spellings_of f = flat_map (declared_text f.class.members f.text.now.toks f.bound.now.names) f.bound.now.names
 
 abbrev pub offences_at : ClassValue → List Pos → UnitFunctions → List Offence
 offences_at class odds f =
@@ -169,6 +173,9 @@ module _ (class : ClassValue) (u : UnitAnalysis) (f : UnitFunctions) (own : f.cl
       (by_ends calls (λ bare p q. flat_alike (call_offences class.members a odds f.text.now f.bound.now p) (call_offences class.members a odds f.text.now f.bound.now q)
       (called_any class.members f.text.now f.bound.now f.entities named bare a odds p q) f.bound.now.calls))
       ∙ rw (is.of_text, is.of_bound) refl)
+
+  pub spellings_told : spellings_of f ≡ unit_spellings class.members u
+  spellings_told = rw (own, is.of_text, is.of_bound) refl
 
   pub found_told : found_of f ≡ unit_found class.members u
   found_told = rw (own, is.of_text, is.of_bound) refl

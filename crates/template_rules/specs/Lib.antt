@@ -6,9 +6,11 @@ pub mod NameOffences
 pub mod MacroOffences
 pub mod ScopeOffences
 pub mod Insides
+pub mod GnuOffences
 pub mod LineOffences
 pub mod Offences
 pub mod FileLists
+pub mod Held
 pub mod Units
 pub mod ListPlaces
 pub mod Covers

@@ -123,9 +123,10 @@ pasted_place members t = if is_name t then held_place members t else []
 
 -- ---- LineNumber
 
--- `__LINE__` is replaced by the number of its line
+-- `__LINE__` is replaced by the number of its line (6.10.8), or `__COUNTER__` of GNU C by the next number of the unit: where no
+-- line defines them, their macros stand in no file
 abbrev pub is_line_number : EventKind → Option Pos → Option Token → Bool
-is_line_number kind.Replaced None (Some name) = bytes_eq name.text (codes "__LINE__")
+is_line_number kind.Replaced None (Some name) = bytes_eq name.text (codes "__LINE__") || bytes_eq name.text (codes "__COUNTER__")
 is_line_number _ _ _ = false
 
 -- inside the list: its `(` is among the tokens put out before, and its `)` is not

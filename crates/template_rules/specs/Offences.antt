@@ -1,5 +1,5 @@
 -- What stands against a new order of the parameters of the functions that a class names, and of the arguments of their
--- calls (this project's): eleven offences, each at the places where it stands.
+-- calls (this project's): offences, each at the places where it stands.
 use Rattle.std.specs.Prelude.{ℕ, if◌then◌else◌, List, [], ◌++◌}
 use Rattle.std.specs.List.{flat_map}
 use Rattle.cs_base.specs.declared.causes.Cause.TheVariants as cause
@@ -11,10 +11,10 @@ use Rattle.c_types.specs.Parameters.{parameters_in}
 use Rattle.analysis.specs.Below.scope_bind.Bound.{Bound}
 use Rattle.analysis.specs.Below.unit_steps.Texts.{UnitTextValue}
 use Rattle.analysis.specs.Analysis.{UnitAnalysis, AnalysisValue}
-use Rattle.analysis.specs.GnuUnits.{gnu_places}
 use Rattle.offences.specs.declared.firsts.Offence.{Offence}
 use Rattle.offences.specs.First.{standing}
 use Rattle.template_rules.specs.Functions.{names_function}
+use Rattle.template_rules.specs.GnuOffences.{gnu_offences}
 use Rattle.template_rules.specs.Marks.{all_marks}
 use Rattle.template_rules.specs.NameOffences.{all_names}
 use Rattle.template_rules.specs.Insides.{all_insides, all_macro_names}
@@ -51,10 +51,9 @@ unit_lists members a odds u =
 abbrev pub all_lists : List Part → AnalysisValue → List Offence
 all_lists members a = flat_map (unit_lists members a (odd_positions a.table)) a.units
 
--- All offences against a new order of so many items, in no order. AssemblerText stands where a unit of GNU C begins, whose
--- assembler texts are not looked at.
+-- All offences against a new order of so many items, in no order.
 abbrev pub offences_of : AnalysisValue → List Part → ℕ → List Offence
 offences_of a members count =
     all_names members a
     ++ (all_marks members a count ++ (all_macro_names members a
-    ++ (all_insides members a ++ (all_lists members a ++ standing cause.AssemblerText (gnu_places a)))))
+    ++ (all_insides members a ++ (all_lists members a ++ gnu_offences members a))))

@@ -5,9 +5,9 @@
 //! itself (`specs/Lists.antt`). Each of these is to have as many items as the first declarator has parameters. What
 //! stands against a new order, and where, say `specs/NameOffences.antt` of names, `specs/Marks.antt` of the parentheses
 //! and commas of lists, `specs/Insides.antt` of what happens inside them and of names in macros, and `specs/Offences.antt`
-//! of lists in macros, of scopes and of odd tokens. Each function takes the first of the offences before it to the first
-//! of them all, in the order of the crate `offences`. `edit_files` gives the edits of the files that hold a list
-//! (`specs/FileLists.antt`). The answer for a place and an order is these edits or the first refusal
+//! of lists in macros, of scopes and of odd tokens; `specs/GnuOffences.antt` of what units of GNU C say of a function
+//! besides. Each function takes the first of the offences before it to the first of them all, in the order of the crate
+//! `offences`. `edit_files` gives the edits of the files that hold a list (`specs/FileLists.antt`). The answer for a place and an order is these edits or the first refusal
 //! (`specs/Template.antt`). The plan of a whole template, and what it keeps, belong to the crates above.
 #![tactic(auto)]
 
@@ -20,6 +20,9 @@ mod dependences;
 mod file_edits;
 mod file_lists;
 mod functions;
+mod gnu_texts;
+mod gnu_units;
+mod held_lists;
 mod item_units;
 mod list_insides;
 mod list_macros;
@@ -36,6 +39,8 @@ mod unit_functions;
 pub use counting::{Declarator, first_declarator, parameter_count};
 pub use file_edits::edit_files;
 pub use functions::{Functions, has_functions, named_functions};
+pub use gnu_units::at_gnu_units;
+pub use held_lists::{list_begins, lists_are_held};
 pub use list_insides::at_insides;
 pub use list_marks::at_marks;
 pub use list_rules::at_lists;

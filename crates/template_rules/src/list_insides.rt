@@ -21,7 +21,7 @@ use c_types::EntityKind;
 use cs_base::{Cause, Tok};
 use offences::{Offence, first_with};
 
-// Whether an event replaces `__LINE__` by the number of its line.
+// Whether an event replaces `__LINE__` by the number of its line, or `__COUNTER__` by the next number of the unit.
 fn is_line_number(event: &Event) -> bool
     ensures { result ≡ is_line_number event.now.kind event.now.def event.now.name }
 {
@@ -32,7 +32,9 @@ fn is_line_number(event: &Event) -> bool
         return false;
     }
     match &event.name {
-        Some(name) => name.text() == b"__LINE__".as_slice(),
+        Some(name) => {
+            name.text() == b"__LINE__".as_slice() || name.text() == b"__COUNTER__".as_slice()
+        }
         None => false,
     }
 }
@@ -163,8 +165,8 @@ fn insides_at(a: &Analysis, unit: &UnitFunctions<'_>, first: Option<Offence>) ->
     )
 }
 
-/// `LineNumber`, at each `__LINE__` that is replaced by a line's number inside a list; `DeclarationInArgument`, at each
-/// tag, typedef name, enumerator or `__func__` that is declared inside one.
+/// `LineNumber`, at each `__LINE__` or `__COUNTER__` that is replaced by a number inside a list; `DeclarationInArgument`,
+/// at each tag, typedef name, enumerator or `__func__` that is declared inside one.
 pub fn at_insides(functions: &Functions<'_>, first: Option<Offence>) -> Option<Offence>
     ensures answer { FirstThen functions.now.analysis.value.table
         (all_insides functions.now.members functions.now.analysis.value) first result }

@@ -1,7 +1,8 @@
 -- What is true of a unit at each moment, and of what its steps give.
-use Rattle.std.proofs.Common.{◌≡◌, ℕ, Bool, true, false, cond, List, [], ◌∷◌, ◌++◌, Some, Ok, Err, codes}
+use Rattle.std.proofs.Common.{◌≡◌, ℕ, nat_lt, Bool, true, false, cond, List, [], ◌∷◌, ◌++◌, Some, Ok, Err, codes, ◌⊎◌}
 use Rattle.std.specs.Prelude.{slice_get}
 use Rattle.cs_base.specs.declared.positions.Pos.{Pos}
+use Rattle.cs_base.specs.Limits.{most_bytes}
 use Rattle.cs_base.specs.Token.{Token}
 use Rattle.line_shape.specs.declared.items.ItemKind.{ItemKind}
 use Rattle.line_shape.specs.declared.items.ItemKind.TheVariants.{Pragma}
@@ -12,7 +13,7 @@ use Rattle.macro_body.specs.Below.paste_origin.Strings.{stringize_of}
 use Rattle.macro_body.specs.declared.definitions.Form.TheVariants as form
 use Rattle.macro_body.specs.declared.definitions.Definition.{Definition}
 use Rattle.macro_body.specs.Notes as expansion
-use Rattle.macro_body.specs.Substitution.{put_in, line_number, path_string}
+use Rattle.macro_body.specs.Substitution.{put_in, number_token, line_number, path_string}
 use Rattle.macro_body.specs.Defining.{line_macro}
 use Rattle.macro_expand.specs.Expansion.{links_name}
 use Rattle.source_files.specs.Faults.{Fault}
@@ -64,6 +65,8 @@ pub record UnitRules (P : Token → Type 0) (M : Note → Type 0) (table : Table
       → slice_get (items_in file) k ≡ Some i → M (Reaches number k evaluated before) → TakenHas P evaluated i
   pub lines : (name : Token) (run : Bool) (before more : ℕ) → P name → name.text ≡ codes "__LINE__"
       → M (Happened run before (expansion.Replaced name line_macro.name more)) → P (line_number name)
+  pub numbers : (name : Token) (n : ℕ) (run : Bool) (before : ℕ) → P name → nat_lt n most_bytes ≡ true
+      → M (Happened run before (expansion.Counted (number_token name n))) → P (number_token name n)
   pub answers : (word : Token) (b : Bool) → P word → M (Answered (answer_for word b)) → P (answer_for word b)
   pub paths : (path : List ℕ) (name : Token) → P name → P (path_string path name)
   pub strings : (name : Token) (gap : Bool) (toks : List Token) (s : Token) → P name → AllToks P toks → stringize_of toks ≡ Ok s → P (put_in name gap s)
@@ -72,15 +75,24 @@ pub record UnitRules (P : Token → Type 0) (M : Note → Type 0) (table : Table
 
 -- ---- what is true of notes
 
+-- the next number of the unit, which GNU C has, in place of a name
+abbrev pub IsNumber : Token → Type 0
+IsNumber t = (name : Token) × (n : ℕ) × (t ≡ number_token name n)
+
 abbrev pub HappenedSo : (Token → Type 0) → expansion.Note → Type 0
 HappenedSo P (expansion.Replaced name m more) = P name
 HappenedSo P (expansion.Linked x y) = P x × P y × AreAlike x y
 HappenedSo P (expansion.Stringized toks s) = AllToks P toks × (stringize_of toks ≡ Ok s)
 HappenedSo P (expansion.Pasted x y z) = P x × P y × P z × IsPasted x y z
+HappenedSo P (expansion.Counted z) = P z × IsNumber z
 
 -- the number that stands for an operand of `defined` (6.10.1 paragraph 4)
 abbrev pub IsAnswer : Token → Type 0
 IsAnswer t = (word : Token) × (b : Bool) × (t ≡ answer_for word b)
+
+-- one of the two
+abbrev pub IsBrought : Token → Type 0
+IsBrought t = IsAnswer t ⊎ IsNumber t
 
 abbrev pub NotedSo : (Token → Type 0) → Note → Type 0
 NotedSo P (Reaches file item evaluated before) = Unit {0}

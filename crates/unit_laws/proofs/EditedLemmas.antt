@@ -7,7 +7,7 @@ use Rattle.std.proofs.lemmas.Bool.{cases_Bool}
 use Rattle.std.proofs.lemmas.List.{map-append}
 use Rattle.std.proofs.lemmas.Option.{none-some, same_Some}
 use Rattle.cs_base.proofs.FileMapLemmas.{bytes_eq-equal}
-use Rattle.source_files.specs.Files.{Source, SourceFile, Found, Lines, Absent, Unopened, Opened, Made, Entry, entry, Table, number_of, found_at, found_in, numbered, asked, opened, opened_bytes, one_more, more_bytes, files_opened, bytes_opened}
+use Rattle.source_files.specs.Files.{Source, SourceFile, Found, Lines, Absent, Unopened, Opened, Made, Entry, entry, Table, is_made, made_path, number_of, found_at, found_in, numbered, asked, opened, opened_bytes, one_more, more_bytes, files_opened, bytes_opened}
 use Rattle.source_files.specs.Search.{Searched, searched, search, search_on}
 use Rattle.source_files.specs.Tables.{Becomes, IsGrown, IsFound, AreFound}
 use Rattle.lexer.specs.FileText.{TextValue}
@@ -37,6 +37,23 @@ some_edited one (Some f) = refl
 
 pub numbered_edited : (edit : Edit) (path : List ℕ) (f : Found) (t : Table) → edited_files edit (numbered path f t) ≡ numbered path (edited_found (edit path) f) (edited_files edit t)
 numbered_edited edit path f t = map-append (edited_entry edit) t (entry path f ∷ [])
+
+-- ---- pseudo files
+
+is_made-edited : (one : List ℕ → List ℕ) (text : List ℕ) (f : Found) → is_made text (edited_found one f) ≡ is_made text f
+is_made-edited one text Lines = refl
+is_made-edited one text Absent = refl
+is_made-edited one text (Unopened bytes) = refl
+is_made-edited one text (Opened bytes) = refl
+is_made-edited one text (Made bytes) = refl
+
+-- they stay, so the first with a text does
+pub made_edited : (edit : Edit) (text : List ℕ) (t : Table) → made_path text (edited_files edit t) ≡ made_path text t
+unfolding made_path
+made_edited edit text [] = refl
+made_edited edit text (e ∷ t) = rw (is_made-edited (edit e.path) text e.found) (rw (made_edited edit text t) refl)
+
+-- ---- a path that is asked for
 
 read_edited : (one : List ℕ → List ℕ) (o : Option (List ℕ)) → found_in (option_map one o) ≡ edited_found one (found_in o)
 read_edited one None = refl

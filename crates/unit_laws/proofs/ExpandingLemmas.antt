@@ -1,6 +1,7 @@
 -- Expansions in a unit: what is true of what they give.
 use Rattle.std.proofs.Common.{◌≡◌, ℕ, ◌+◌, ◌-◌, Bool, true, List, [], ◌∷◌, length, map, drop, Some, Result, Ok, Err, nat_lt, refl, sym, subst}
 use Rattle.cs_base.specs.Token.{Token}
+use Rattle.macro_body.specs.declared.notes.Work.{Work}
 use Rattle.macro_body.specs.declared.definitions.Definition.{Definition}
 use Rattle.macro_body.specs.Notes as expansion
 use Rattle.macro_expand.specs.Expansion.{Setting, expansion}
@@ -35,6 +36,7 @@ module _ (P : Token → Type 0) (M : Note → Type 0) (table : Table) (rules : U
     lines = λ name m more here found is brought.
         let line = (let has = macros name.text m found in has.line) is in
         rules.lines name run before more here line.1 (subst (λ (t : Token). M (Happened run before (expansion.Replaced name t more))) line.0 brought);
+    numbers = λ name n here low brought. rules.numbers name n run before here low brought;
     paths = λ name m here found is. rules.paths set.path name here;
     strings = rules.strings;
     pastes = λ name x y z here px py is told. rules.pastes name x y z run before here px py is told;
@@ -44,9 +46,10 @@ module _ (P : Token → Type 0) (M : Note → Type 0) (table : Table) (rules : U
         (here, own.0.0, record { first = is; second = own.0.1; text = sym own.1 });
     stringized = λ toks s all is. (all, is);
     pasted = λ name x y z px py pz is. (px, py, pz, record { token = z; made = is; same = record { kind = refl; text = refl; origins = refl } });
+    counted = λ name n here z. (z, (name, n, refl));
   }
 
-  with_work : (s : State) (work : ℕ) → StateHas P s → StateHas P (record s { work = work })
+  with_work : (s : State) (work : Work) → StateHas P s → StateHas P (record s { work = work })
   with_work s work has = record { macros = has.macros; names = has.names }
 
   expanded_as_done : (run : Bool) (file : SourceFile) (toks : List Token) (s : State) (r : Result expansion.Expanded expansion.Fault) → expansion s.macros file.path toks s.work ≡ r

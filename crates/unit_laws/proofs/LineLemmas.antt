@@ -7,15 +7,14 @@ use Rattle.std.proofs.lemmas.Option.{none-some, same_Some}
 use Rattle.cs_base.specs.declared.causes.Cause.TheVariants.{BadDirective}
 use Rattle.cs_base.specs.declared.causes.Cause.TheVariants as cause
 use Rattle.cs_base.specs.declared.positions.Pos.{Pos}
-use Rattle.cs_base.specs.Token.{Token}
+use Rattle.cs_base.specs.Token.{Token, origin_at}
 use Rattle.cs_base.specs.Units.{UnitValue}
 use Rattle.unit_steps.specs.Below.cond_eval.declared.faults.CondFault.{CondFault}
 use Rattle.unit_steps.specs.Below.cond_eval.Evaluation.{condition}
 use Rattle.line_shape.specs.Signs.{is_name}
 use Rattle.macro_body.specs.declared.definitions.Definition.{Definition}
 use Rattle.line_shape.specs.MacroLine.{MacroParts, macro_of}
-use Rattle.macro_body.specs.Defining.{form_of, definition_of, defined_by, line_macro, in_gnu}
-use Rattle.macro_body.specs.declared.definitions.Form.TheVariants as form
+use Rattle.macro_body.specs.Defining.{form_of, definition_of, defined_by, in_gnu}
 use Rattle.macro_body.specs.Hides.{toks_of}
 use Rattle.macro_body.specs.Live.{with_macro, without_macro}
 use Rattle.macro_body.specs.Notes as expansion
@@ -37,7 +36,8 @@ use Rattle.unit_steps.specs.State.{State, Did, did, Outcome, only, onward}
 use Rattle.include_tree.specs.Including.{Process, Inner, left_to, entered, unless_once, included, include_of, include_next_of, open_header}
 use Rattle.include_tree.specs.Walk.{items_in}
 use Rattle.unit_laws.specs.Edited.{Edit, edited_state}
-use Rattle.unit_laws.specs.Walking.{AreItemsAlike, text_items, KeepsTexts, with_text, IsEdited, IsReachedAt}
+use Rattle.expansion_laws.specs.Alike.{stands_for_line}
+use Rattle.unit_laws.specs.Walking.{is_line_word, AreItemsAlike, text_items, KeepsTexts, with_text, IsEdited, IsReachedAt}
 use Rattle.unit_laws.proofs.ReorderedStepLemmas.{World, LineMacros, AreQuiet, quiet_both, Fits, Still, Goes, Same, itself, plus_none, none_begins, still_only, goes_only, goes_noted, then_still, still_then, goes_then, goes_cond, still_cond, still_test}
 use Rattle.unit_laws.proofs.OpenLemmas.{FileGoes, ctx, ctx2, header_goes}
 
@@ -68,16 +68,16 @@ name_lines name s h = subst LineMacros (sym (name_macros name s)) h
 
 -- ---- definitions
 
-no_line : (b : Bool) → form_of b ≡ form.Line → ⊥
+no_line : (b : Bool) → stands_for_line (form_of b) ≡ true → ⊥
 no_line true e = absurd cc
 no_line false e = absurd cc
 
-parts_no_line : (name : Token) (o : Option MacroParts) (m : Definition) → option_map (definition_of name) o ≡ Some m → m.form ≡ form.Line → ⊥
+parts_no_line : (name : Token) (o : Option MacroParts) (m : Definition) → option_map (definition_of name) o ≡ Some m → stands_for_line m.form ≡ true → ⊥
 parts_no_line name None m e h = absurd (none-some m e)
-parts_no_line name (Some parts) m e h = no_line parts.function (ap (λ (d : Definition). d.form) (same_Some (definition_of name parts) m e) ∙ h)
+parts_no_line name (Some parts) m e h = no_line parts.function (ap (λ (d : Definition). stands_for_line d.form) (same_Some (definition_of name parts) m e) ∙ h)
 
--- no line defines a macro that stands for the number of a line
-defined_no_line : (toks : List Token) (m : Definition) → defined_by toks ≡ Some m → m.form ≡ form.Line → ⊥
+-- no line defines a macro that stands for the number of a line, or of the unit
+defined_no_line : (toks : List Token) (m : Definition) → defined_by toks ≡ Some m → stands_for_line m.form ≡ true → ⊥
 defined_no_line [] m e h = absurd (none-some m e)
 defined_no_line (hash ∷ []) m e h = absurd (none-some m e)
 defined_no_line (hash ∷ word ∷ []) m e h = absurd (none-some m e)
@@ -85,10 +85,10 @@ defined_no_line (hash ∷ word ∷ name ∷ toks) m e h = parts_no_line name (ma
 
 -- so it is under a name
 abbrev LineAt : List ℕ → Definition → Type 0
-LineAt name m = m.form ≡ form.Line → (m.name ≡ line_macro.name) × (name ≡ codes "__LINE__")
+LineAt name m = stands_for_line m.form ≡ true → (origin_at m.name 0 ≡ None) × (is_line_word name ≡ true)
 
-with_line : (m d : Definition) (name : List ℕ) (old : Option Definition) (b : Bool) → (m.form ≡ form.Line → ⊥) → (old ≡ Some d → LineAt name d) → cond b (Some m) old ≡ Some d → LineAt name d
-with_line m d name old true lacks there e = λ h. absurd (lacks (ap (λ (x : Definition). x.form) (same_Some m d e) ∙ h))
+with_line : (m d : Definition) (name : List ℕ) (old : Option Definition) (b : Bool) → (stands_for_line m.form ≡ true → ⊥) → (old ≡ Some d → LineAt name d) → cond b (Some m) old ≡ Some d → LineAt name d
+with_line m d name old true lacks there e = λ h. absurd (lacks (ap (λ (x : Definition). stands_for_line x.form) (same_Some m d e) ∙ h))
 with_line m d name old false lacks there e = there e
 
 without_line : (d : Definition) (name : List ℕ) (old : Option Definition) (b : Bool) → (old ≡ Some d → LineAt name d) → cond b None old ≡ Some d → LineAt name d
@@ -269,7 +269,7 @@ module _ (w : World) where
     };
   }
 
-  defined_goes : (file new : SourceFile) (at : Pos) (m : Definition) (s : State) → (m.form ≡ form.Line → ⊥) → (b : Bool)
+  defined_goes : (file new : SourceFile) (at : Pos) (m : Definition) (s : State) → (stands_for_line m.form ≡ true → ⊥) → (b : Bool)
       → Goes w itself Put s (cond b (Ok (did [] (define_notes m s) (after_define m s))) (Err (fault_at file at BadDirective)))
       (cond b (Ok (did [] (define_notes m (edited_state w.edit s)) (after_define m (edited_state w.edit s)))) (Err (fault_at new at BadDirective)))
   defined_goes file new at m s other false = tt

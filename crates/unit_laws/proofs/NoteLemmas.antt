@@ -1,5 +1,5 @@
 -- What is read of the notes of a unit.
-use Rattle.std.proofs.Common.{◌≡◌, ℕ, zero, suc, Bool, true, false, List, [], ◌∷◌, ◌++◌, Option, Some, None, refl, sym, subst}
+use Rattle.std.proofs.Common.{◌≡◌, ℕ, zero, suc, Bool, true, false, List, [], ◌∷◌, ◌++◌, Option, Some, None, refl, sym, subst, inl, inr}
 use Rattle.std.specs.Prelude.{slice_get}
 use Rattle.std.specs.List.{flat_map}
 use Rattle.std.proofs.lemmas.Option.{none-some, same_Some}
@@ -11,12 +11,12 @@ use Rattle.macro_body.specs.Notes as expansion
 use Rattle.unit_steps.specs.declared.events.Event.{Event}
 use Rattle.unit_steps.specs.declared.events.EventKind.{EventKind}
 use Rattle.unit_steps.specs.declared.events.EventKind.TheVariants as kind
-use Rattle.unit_steps.specs.Notes.{Note, Reaches, Happened, Defined, Undefined, Tested, Left, Linked, Answered, Named, Entered, Exited, ReadOnce, links_of, links_then, pasted_of, pasted_then, stringized_of, stringized_then, header_of, answers_of, events_of, events_then, named_event, file_event, before_in}
+use Rattle.unit_steps.specs.Notes.{Note, Reaches, Happened, Defined, Undefined, Tested, Left, Linked, Answered, Named, Entered, Exited, ReadOnce, links_of, links_then, pasted_of, pasted_then, stringized_of, stringized_then, header_of, answers_of, answers_then, events_of, events_then, named_event, file_event, before_in}
 use Rattle.unit_steps.specs.Texts.{UnitTextValue, unit_text}
 use Rattle.expansion_laws.specs.Telling.{AreAlike}
 use Rattle.expansion_laws.proofs.ListLemmas.{AllToks, toks_more}
 use Rattle.unit_laws.specs.UnitLinks.{IsIn}
-use Rattle.unit_laws.proofs.DoneLemmas.{AllIn, all_both, PlaceHas, IsAnswer, HappenedSo, NotedSo}
+use Rattle.unit_laws.proofs.DoneLemmas.{AllIn, all_both, PlaceHas, IsBrought, HappenedSo, NotedSo}
 use Rattle.unit_laws.proofs.PartLemmas.{toks_both}
 
 -- ---- lists
@@ -60,7 +60,7 @@ pub record TextHas (P : Token → Type 0) (text : UnitTextValue) : Type 0 where
   pub stringized : AllToks P text.stringized
   pub header : AllToks P text.header
   pub answers : AllToks P text.answers
-  pub answered : AllToks IsAnswer text.answers
+  pub answered : AllToks IsBrought text.answers
   pub events : AllIn (EventHas P) text.events
 
 module _ (P : Token → Type 0) where
@@ -77,6 +77,7 @@ module _ (P : Token → Type 0) where
   links_then_have (expansion.Replaced name m more) h = tt
   links_then_have (expansion.Stringized toks s) h = tt
   links_then_have (expansion.Pasted x y z) h = tt
+  links_then_have (expansion.Counted z) h = tt
 
   links_have : (n : Note) → NotedSo P n → AllIn (LinkHas P) (links_of n)
   links_have (Linked x y) h = ((h.0, h.1, h.2), tt)
@@ -97,6 +98,7 @@ module _ (P : Token → Type 0) where
   pasted_then_has (expansion.Replaced name m more) h = tt
   pasted_then_has (expansion.Stringized toks s) h = tt
   pasted_then_has (expansion.Pasted x y z) h = (h.2, tt)
+  pasted_then_has (expansion.Counted z) h = tt
 
   pasted_has : (n : Note) → NotedSo P n → AllToks P (pasted_of n)
   pasted_has (Happened run before n) h = pasted_then_has n h
@@ -117,6 +119,7 @@ module _ (P : Token → Type 0) where
   stringized_then_has (expansion.Replaced name m more) h = tt
   stringized_then_has (expansion.Stringized toks s) h = h.0
   stringized_then_has (expansion.Pasted x y z) h = tt
+  stringized_then_has (expansion.Counted z) h = tt
 
   stringized_has : (n : Note) → NotedSo P n → AllToks P (stringized_of n)
   stringized_has (Happened run before n) h = stringized_then_has n h
@@ -146,10 +149,17 @@ module _ (P : Token → Type 0) where
   header_has (Exited at file before) h = tt
   header_has (ReadOnce passed at file before) h = tt
 
-  answers_have : (n : Note) → NotedSo P n → AllToks (λ t. P t × IsAnswer t) (answers_of n)
-  answers_have (Answered t) h = ((h.0, h.1), tt)
+  answers_then_have : (n : expansion.Note) → HappenedSo P n → AllToks (λ t. P t × IsBrought t) (answers_then n)
+  answers_then_have (expansion.Counted z) h = ((h.0, inr h.1), tt)
+  answers_then_have (expansion.Linked x y) h = tt
+  answers_then_have (expansion.Replaced name m more) h = tt
+  answers_then_have (expansion.Stringized toks s) h = tt
+  answers_then_have (expansion.Pasted x y z) h = tt
+
+  answers_have : (n : Note) → NotedSo P n → AllToks (λ t. P t × IsBrought t) (answers_of n)
+  answers_have (Answered t) h = ((h.0, inl h.1), tt)
   answers_have (Named toks) h = tt
-  answers_have (Happened run before n) h = tt
+  answers_have (Happened run before n) h = answers_then_have n h
   answers_have (Linked x y) h = tt
   answers_have (Reaches file item evaluated before) h = tt
   answers_have (Defined m before) h = tt
@@ -160,9 +170,9 @@ module _ (P : Token → Type 0) where
   answers_have (Exited at file before) h = tt
   answers_have (ReadOnce passed at file before) h = tt
 
-  flat_answers : (notes : List Note) → AllIn (NotedSo P) notes → AllToks (λ t. P t × IsAnswer t) (flat_map answers_of notes)
+  flat_answers : (notes : List Note) → AllIn (NotedSo P) notes → AllToks (λ t. P t × IsBrought t) (flat_map answers_of notes)
   flat_answers [] so = tt
-  flat_answers (n ∷ notes) so = toks_both (λ t. P t × IsAnswer t) (answers_of n) (flat_map answers_of notes) (answers_have n so.0) (flat_answers notes so.1)
+  flat_answers (n ∷ notes) so = toks_both (λ t. P t × IsBrought t) (answers_of n) (flat_map answers_of notes) (answers_have n so.0) (flat_answers notes so.1)
 
   named_has : (k : EventKind) (t : Token) (def : Option Pos) (before : ℕ) → P t → EventHas P (named_event k t def before)
   named_has k t def before h = record { name = λ name e. subst P (same_Some t name e) h; at = (t, (h, refl)) }
@@ -175,6 +185,7 @@ module _ (P : Token → Type 0) where
   events_then_have run before (expansion.Linked x y) h = tt
   events_then_have run before (expansion.Stringized toks s) h = tt
   events_then_have run before (expansion.Pasted x y z) h = tt
+  events_then_have run before (expansion.Counted z) h = tt
 
   events_have : (n : Note) → NotedSo P n → AllIn (EventHas P) (events_of n)
   events_have (Happened run before n) h = events_then_have run before n h
@@ -198,7 +209,7 @@ module _ (P : Token → Type 0) where
     pasted = flat_toks pasted_of pasted_has notes so;
     stringized = flat_toks stringized_of stringized_has notes so;
     header = flat_toks header_of header_has notes so;
-    answers = (let both = flat_answers notes so in toks_more (λ t. P t × IsAnswer t) P (flat_map answers_of notes) both (λ t h. h.0));
-    answered = (let both = flat_answers notes so in toks_more (λ t. P t × IsAnswer t) IsAnswer (flat_map answers_of notes) both (λ t h. h.1));
+    answers = (let both = flat_answers notes so in toks_more (λ t. P t × IsBrought t) P (flat_map answers_of notes) both (λ t h. h.0));
+    answered = (let both = flat_answers notes so in toks_more (λ t. P t × IsBrought t) IsBrought (flat_map answers_of notes) both (λ t h. h.1));
     events = flat_has (EventHas P) events_of events_have notes so;
   }

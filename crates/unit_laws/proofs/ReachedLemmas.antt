@@ -13,7 +13,7 @@ use Rattle.unit_steps.specs.Conditions.{answer_for}
 use Rattle.source_files.specs.Sources.{source_at}
 use Rattle.unit_steps.specs.Texts.{UnitTextValue, reached_in, unit_text}
 use Rattle.include_tree.specs.Walk.{ItemText, items_in}
-use Rattle.macro_body.specs.Substitution.{put_in}
+use Rattle.macro_body.specs.Substitution.{put_in, number_token}
 use Rattle.expansion_laws.specs.Pieces.{Characters, IsWhole, AreWhole}
 use Rattle.expansion_laws.proofs.ListLemmas.{toks_at, each_tok}
 use Rattle.expansion_laws.proofs.PiecesLemmas.{whole_as, pasted_whole, string_whole, quoted_fails}
@@ -22,7 +22,7 @@ use Rattle.unit_laws.specs.UnitLinks.{IsIn}
 use Rattle.unit_laws.specs.UnitTokens.{NumbersAreWhole}
 use Rattle.unit_laws.proofs.DoneLemmas.{UnitRules, PlaceHas, TakenHas}
 use Rattle.unit_laws.proofs.NoteLemmas.{in_at, LinkHas, EventHas}
-use Rattle.unit_laws.proofs.TextLemmas.{text_is, unit_text_has, line_event, answer_among}
+use Rattle.unit_laws.proofs.TextLemmas.{text_is, unit_text_has, line_event, number_among, answer_among}
 
 -- ---- items that a unit tells that it reached
 
@@ -84,6 +84,7 @@ module _ (among : Characters) (files : List Token) (text : UnitTextValue) (notes
     lines = λ name run before more here spelled brought.
         let e = line_event text notes toks name run before more is_text spelled brought in
         numbers.lines e.0 name e.1.0 e.1.1;
+    numbers = λ name n run before here low brought. numbers.answers (number_token name n) (number_among text notes toks (number_token name n) run before is_text brought);
     answers = λ word b here brought. numbers.answers (answer_for word b) (answer_among text notes toks (answer_for word b) is_text brought);
     paths = λ path name here. λ h. absurd (quoted_fails among _ _ quote refl h);
     strings = λ name gap ts s here all made. string_whole among files name gap ts s quote made;

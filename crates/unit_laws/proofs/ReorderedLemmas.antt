@@ -8,8 +8,6 @@ use Rattle.std.proofs.lemmas.List.{length-map}
 use Rattle.std.proofs.lemmas.Option.{none-some, same_Some, slice_get-map}
 use Rattle.cs_base.specs.declared.tokens.Kind.{Kind}
 use Rattle.cs_base.specs.Token.{Token, origin_at}
-use Rattle.macro_body.specs.declared.definitions.Form.{Form}
-use Rattle.macro_body.specs.declared.definitions.Form.TheVariants as form
 use Rattle.macro_body.specs.declared.definitions.Definition.{Definition}
 use Rattle.macro_body.specs.Hides.{toks_of}
 use Rattle.macro_body.specs.Notes as expansion
@@ -167,13 +165,7 @@ processed_of told all files file k from count happened toks table s =
 
 -- ---- numbers of lines
 
-line_form : (f : Form) → stands_for_line f ≡ true → f ≡ form.Line
-line_form form.Line h = refl
-line_form form.File h = absurd cc
-line_form form.Object h = absurd cc
-line_form form.Function h = absurd cc
-
--- in no list a name is replaced by the number of its line
+-- in no list a name is replaced by the number of its line or of the unit
 lines_stay : NotesAreTrue → (edit : Edit) (old : Source) (told : List Note) (all : List Token) (files : Table) (c : Cut) → ListsStand c (unit_text all told) → (file : SourceFile) (text : TextValue) (k : ℕ) (i j : ItemText) (s : State) (e : expansion.Expanded)
     → IsReachedRun edit old told all files file text k i j s e → is_between s.before c ≡ true → (count : ℕ) → LinesStay s.macros 0 (part_of c s.before count) e.notes
 lines_stay true_notes edit old told all files c lists file text k i j s e at between count = λ name m before noted here. by name m before noted here (s.macros name.text) refl
@@ -196,11 +188,11 @@ lines_stay true_notes edit old told all files c lists file text k i j s e at bet
         go : (x : Bool) → stands_for_line d.form ≡ x → x ≡ false
         go false f = refl
         go true f =
-            let line = at.lines name.text d is (line_form d.form f) in
+            let line = at.lines name.text d is f in
             let told_is = true_notes s.macros file.path i.toks s.work e at.expands (expansion.Replaced name m before) noted in
             let same : told_is.definition ≡ d = same_Some told_is.definition d (sym told_is.defined ∙ is) in
             let m_is : m ≡ d.name = sym told_is.same ∙ ap (λ (x : Definition). x.name) same in
-            let first : origin_at m 0 ≡ None = ap (λ (t : Token). origin_at t 0) (m_is ∙ line.0) in
+            let first : origin_at m 0 ≡ None = ap (λ (t : Token). origin_at t 0) m_is ∙ line.0 in
             let event : Event = named_event kind.Replaced name (origin_at m 0) (s.before + before) in
             let stands : IsOf (unit_text all told).events event =
             of_flat events_of told (Happened true s.before (expansion.Replaced name m before)) event (happens (expansion.Replaced name m before) noted) (0, refl) in

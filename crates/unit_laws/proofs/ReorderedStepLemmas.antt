@@ -1,11 +1,10 @@
 -- Steps of a unit over the files as they were, and over the edited ones.
-use Rattle.std.proofs.Common.{◌≡◌, ℕ, zero, suc, ◌+◌, ◌<◌, ◌≤◌, Bool, true, false, cond, List, [], ◌∷◌, ◌++◌, length, codes, Ok, Err, Some, refl, ap, sym, subst, ◌∙◌, arith, append_assoc}
+use Rattle.std.proofs.Common.{◌≡◌, ℕ, zero, suc, ◌+◌, ◌<◌, ◌≤◌, Bool, true, false, cond, List, [], ◌∷◌, ◌++◌, length, codes, Ok, Err, None, Some, refl, ap, sym, subst, ◌∙◌, arith, append_assoc}
 use Rattle.std.specs.Prelude.{slice_get}
-use Rattle.cs_base.specs.Token.{Token}
+use Rattle.cs_base.specs.Token.{Token, origin_at}
 use Rattle.cs_base.proofs.ListLemmas.{front_at}
-use Rattle.macro_body.specs.declared.definitions.Form.TheVariants as form
 use Rattle.macro_body.specs.declared.definitions.Definition.{Definition}
-use Rattle.macro_body.specs.Defining.{line_macro}
+use Rattle.expansion_laws.specs.Alike.{stands_for_line}
 use Rattle.macro_body.specs.Macro.{Table as Macros}
 use Rattle.source_files.specs.Faults.{Fault}
 use Rattle.source_files.specs.Files.{Source, Table}
@@ -14,7 +13,7 @@ use Rattle.source_files.proofs.TableLemmas.{grown_refl, grown_trans}
 use Rattle.unit_steps.specs.Notes.{Note, Reaches, Happened, Defined, Undefined, Tested, Left, Linked, Answered, Named, Entered, Exited, ReadOnce}
 use Rattle.unit_steps.specs.State.{State, Did, did, Outcome, only, noted, onward}
 use Rattle.unit_laws.specs.Edited.{Edit, IsEditedSource, edited_state}
-use Rattle.unit_laws.specs.Walking.{IsOf, IsUpTo, AreUpTo, IsFrom, AreFrom, IsReachedAt, Stands}
+use Rattle.unit_laws.specs.Walking.{is_line_word, IsOf, IsUpTo, AreUpTo, IsFrom, AreFrom, IsReachedAt, Stands}
 
 -- ---- notes
 
@@ -101,9 +100,10 @@ reached_later b ns ms h = (h.0, h.1, h.2, of_later ns ms (Reaches h.0 h.1 h.2 b)
 
 -- ---- steps
 
--- a macro that stands for the number of a line is `__LINE__`, which no line defined (6.10.8)
+-- a macro that stands for the number of a line is `__LINE__` (6.10.8), and one for that of the unit `__COUNTER__`; no line
+-- defined it
 abbrev pub LineMacros : Macros → Type 0
-LineMacros macros = (name : List ℕ) (m : Definition) → macros name ≡ Some m → m.form ≡ form.Line → (m.name ≡ line_macro.name) × (name ≡ codes "__LINE__")
+LineMacros macros = (name : List ℕ) (m : Definition) → macros name ≡ Some m → stands_for_line m.form ≡ true → (origin_at m.name 0 ≡ None) × (is_line_word name ≡ true)
 
 -- What goes on in a unit: the edit, what the paths held and hold, its notes, its tokens and its files; and what tokens go with.
 pub record World : Type 1 where

@@ -1,34 +1,35 @@
 -- Units over the edited files.
-use Rattle.std.proofs.Common.{◌≡◌, ℕ, ◌+◌, ◌-◌, Bool, true, false, cond, List, [], ◌∷◌, ◌++◌, length, take, drop, codes, Some, None, Ok, Err, refl, ap, sym, subst, ◌∙◌, arith, length-append, append_assoc, append-nil}
+use Rattle.std.proofs.Common.{◌≡◌, ℕ, ◌+◌, ◌-◌, Bool, true, false, cond, List, [], ◌∷◌, ◌++◌, length, take, drop, codes, Option, Some, None, Ok, Err, refl, ap, sym, subst, ◌∙◌, arith, length-append, append_assoc, append-nil}
 use Rattle.std.specs.Prelude.{nat_le}
 use Rattle.std.specs.Str.{bytes_eq}
-use Rattle.std.proofs.lemmas.Bool.{leb-true, le-leb}
+use Rattle.std.proofs.lemmas.Bool.{leb-true, le-leb, or_left, or_right}
 use Rattle.std.proofs.lemmas.Option.{none-some, same_Some}
 use Rattle.std.proofs.lemmas.Slice.Eq.{bytes_eq-Decides}
 use Rattle.std.proofs.lemmas.List.{map-append, nil_from_length, length-map}
-use Rattle.cs_base.specs.Token.{Token}
-use Rattle.cs_base.specs.Units.{UnitValue, defines_of}
+use Rattle.cs_base.specs.Token.{Token, origin_at}
+use Rattle.cs_base.specs.Units.{UnitValue, is_gnu, defines_of}
 use Rattle.cs_base.proofs.ListLemmas.{front_none}
-use Rattle.macro_body.specs.declared.definitions.Form.TheVariants as form
 use Rattle.macro_body.specs.declared.definitions.Definition.{Definition}
-use Rattle.macro_body.specs.Defining.{line_macro, file_macro, first_macros}
+use Rattle.macro_body.specs.Defining.{line_macro, file_macro, counter_macro, standard_macros, first_macros}
 use Rattle.lexer.specs.FileText.{file_text}
 use Rattle.source_files.specs.Faults.{first_place}
-use Rattle.source_files.specs.Files.{Made, entry, SourceFile, Table, Carried, defines_path, asked}
+use Rattle.source_files.specs.Files.{Made, entry, SourceFile, Table, Carried, defines_path, made_path, asked}
 use Rattle.source_files.specs.Limits.{the_limits}
 use Rattle.source_files.specs.Tables.{IsGrown, AreFound, Widens}
 use Rattle.source_files.proofs.TableLemmas.{grown_refl, grown_trans, widens_asked}
 use Rattle.include_tree.specs.OpeningStep.{open_file}
 use Rattle.unit_steps.specs.Notes.{Note}
 use Rattle.unit_steps.specs.State.{State, Did, did, Outcome}
-use Rattle.include_tree.specs.Unit.{first_state, outer_file, main_file, both_files, unit_outcome}
+use Rattle.include_tree.specs.Unit.{path_or_own, pseudo_path, table_or_more, with_defines, first_state, outer_file, main_file, both_files, unit_outcome}
 use Rattle.include_tree.specs.Walk.{file_items}
+use Rattle.include_tree.proofs.DefinesLemmas.{with_defines_has}
 use Rattle.list_cuts.specs.Cuts.{Cut, done, keep, list, span_of, IsOrder, picked, woven, gaps_of, arranged, items_of, AreOf}
 use Rattle.list_cuts.specs.CutOf.{back}
 use Rattle.list_cuts.proofs.CutLemmas.{length-arranged, gaps_of-append, items_of-append}
 use Rattle.unit_laws.specs.Edited.{Edit, edited_files, edited_carried, edited_state}
-use Rattle.unit_laws.specs.Walking.{KeepsTexts, plain, plains, GoAlong, UnitsGoAlike}
-use Rattle.unit_laws.proofs.EditedLemmas.{numbered_edited, asked_edited, found_more, grown_more}
+use Rattle.expansion_laws.specs.Alike.{stands_for_line}
+use Rattle.unit_laws.specs.Walking.{is_line_word, KeepsTexts, plain, plains, GoAlong, UnitsGoAlike}
+use Rattle.unit_laws.proofs.EditedLemmas.{numbered_edited, asked_edited, made_edited, found_more, grown_more}
 use Rattle.unit_laws.proofs.ReorderedStepLemmas.{World, LineMacros, PutsToo, Goes, itself, StandAt, still_then}
 use Rattle.unit_laws.proofs.OpenLemmas.{FileGoes, ctx, ctx2, open_goes}
 use Rattle.unit_laws.proofs.RunLemmas.{RunsToo}
@@ -81,21 +82,41 @@ module _ (w : World) (runs : RunsToo w) (keeps : KeepsTexts w.edit w.old) (unit 
 
 -- ---- the first state
 
+more_edited : (edit : Edit) (number : ℕ) (unit : UnitValue) (t : Table) (found : Option (List ℕ)) → table_or_more found number unit (edited_files edit t) ≡ edited_files edit (table_or_more found number unit t)
+more_edited edit number unit t None = sym (numbered_edited edit (defines_path number) (Made (defines_of unit)) t)
+more_edited edit number unit t (Some path) = refl
+
+defines_edited : (edit : Edit) (number : ℕ) (unit : UnitValue) (t : Table) → with_defines number unit (edited_files edit t) ≡ edited_files edit (with_defines number unit t)
+defines_edited edit number unit t =
+    ap (λ (found : Option (List ℕ)). table_or_more found number unit (edited_files edit t)) (made_edited edit (defines_of unit) t)
+    ∙ more_edited edit number unit t (made_path (defines_of unit) t)
+
 first_edited : (edit : Edit) (number : ℕ) (unit : UnitValue) (t : Table) → first_state the_limits number unit (edited_files edit t) ≡ edited_state edit (first_state the_limits number unit t)
 first_edited edit number unit t =
-    ap (λ (u : Table). record (first_state the_limits number unit t) { table = u }) (sym (numbered_edited edit (defines_path number) (Made (defines_of unit)) t))
+    ap (λ (u : Table). record (first_state the_limits number unit t) { table = u }) (defines_edited edit number unit t)
 
--- `__LINE__` alone stands for the number of a line at first
-first_by : (name : List ℕ) (m : Definition) (a b : Bool) → bytes_eq name (codes "__LINE__") ≡ b → cond a (Some file_macro) (cond b (Some line_macro) None) ≡ Some m → m.form ≡ form.Line
-    → (m.name ≡ line_macro.name) × (name ≡ codes "__LINE__")
+pseudo_edited : (edit : Edit) (number : ℕ) (unit : UnitValue) (t : Table) → pseudo_path number unit (edited_files edit t) ≡ pseudo_path number unit t
+pseudo_edited edit number unit t = ap (λ (found : Option (List ℕ)). path_or_own found number) (made_edited edit (defines_of unit) t)
+
+-- `__LINE__` and `__COUNTER__` alone stand for such numbers at first
+first_by : (name : List ℕ) (m : Definition) (a b : Bool) → bytes_eq name (codes "__LINE__") ≡ b → cond a (Some file_macro) (cond b (Some line_macro) None) ≡ Some m → stands_for_line m.form ≡ true
+    → (origin_at m.name 0 ≡ None) × (is_line_word name ≡ true)
 first_by name m true b is e h =
-    let other : form.File ≡ form.Line = ap (λ (d : Definition). d.form) (same_Some file_macro m e) ∙ h in
+    let other : false ≡ true = ap (λ (d : Definition). stands_for_line d.form) (same_Some file_macro m e) ∙ h in
     absurd cc
-first_by name m false true is e h = (ap (λ (d : Definition). d.name) (sym (same_Some line_macro m e)), (bytes_eq-Decides name (codes "__LINE__")).0 is)
+first_by name m false true is e h =
+    (ap (λ (d : Definition). origin_at d.name 0) (sym (same_Some line_macro m e)), or_left (bytes_eq name (codes "__LINE__")) (bytes_eq name (codes "__COUNTER__")) is)
 first_by name m false false is e h = absurd (none-some m e)
 
-first_lines : LineMacros first_macros
-first_lines = λ name m e h. first_by name m (bytes_eq name (codes "__FILE__")) (bytes_eq name (codes "__LINE__")) refl e h
+counter_by : (name : List ℕ) (m : Definition) (b : Bool) → bytes_eq name (codes "__COUNTER__") ≡ b → cond b (Some counter_macro) (standard_macros name) ≡ Some m → stands_for_line m.form ≡ true
+    → (origin_at m.name 0 ≡ None) × (is_line_word name ≡ true)
+counter_by name m true is e h =
+    (ap (λ (d : Definition). origin_at d.name 0) (sym (same_Some counter_macro m e)), or_right (bytes_eq name (codes "__LINE__")) (bytes_eq name (codes "__COUNTER__")) is)
+counter_by name m false is e h = first_by name m (bytes_eq name (codes "__FILE__")) (bytes_eq name (codes "__LINE__")) refl e h
+
+first_lines : (gnu : Bool) → LineMacros (first_macros gnu)
+first_lines false = λ name m e h. first_by name m (bytes_eq name (codes "__FILE__")) (bytes_eq name (codes "__LINE__")) refl e h
+first_lines true = λ name m e h. counter_by name m (bytes_eq name (codes "__COUNTER__")) refl e h
 
 pub record UnitToo (w : World) (number : ℕ) (unit : UnitValue) (before : Carried) (d : Did (List Token)) : Type 0 where
   pub toks : List Token
@@ -109,11 +130,12 @@ pub unit_goes : (w : World) → RunsToo w → KeepsTexts w.edit w.old → (numbe
     → unit_outcome the_limits file_text w.old number unit before ≡ Ok d → AreFound w.old before.table → d.notes ≡ w.told → d.value ≡ w.all → d.state.table ≡ w.files → UnitToo w number unit before d
 unit_goes w runs keeps number unit before d is found told all files =
     let s : State = first_state the_limits number unit before.table in
-    let goes = files_of_goes w runs keeps unit before.toks (defines_path number) unit.path s in
-    let new : Outcome (List Token) = both_files (ctx2 w keeps unit before.toks) (defines_path number) unit.path (edited_state w.edit s) in
+    let path : List ℕ = pseudo_path number unit before.table in
+    let goes = files_of_goes w runs keeps unit before.toks path unit.path s in
+    let new : Outcome (List Token) = both_files (ctx2 w keeps unit before.toks) path unit.path (edited_state w.edit s) in
     let done : Goes w itself w.V s (Ok d) new = subst (λ (m : Outcome (List Token)). Goes w itself w.V s m new) is goes in
     let k : PutsToo w itself w.V s d new =
-    done (found_more w.old (defines_path number) (defines_of unit) before.table found, first_lines) in
+    done (with_defines_has (AreFound w.old) number unit before.table found (found_more w.old (defines_path number) (defines_of unit) before.table found), first_lines (is_gnu unit.standard)) in
     let count = k.counted in
     let last : d.state.before ≡ length w.all = (let same : d.state.before ≡ length d.value = omega (arith, count) in same) ∙ ap length all in
     let x = k.too (record {
@@ -130,10 +152,12 @@ unit_goes w runs keeps number unit before d is found told all files =
     record {
       toks = x.value;
       notes = x.notes;
-      is = ap (both_files (ctx2 w keeps unit before.toks) (defines_path number) unit.path) (first_edited w.edit number unit before.table) ∙ x.is;
+      is = ap (λ (p : List ℕ). both_files (ctx2 w keeps unit before.toks) p unit.path (first_state the_limits number unit (edited_files w.edit before.table))) (pseudo_edited w.edit number unit before.table)
+          ∙ ap (both_files (ctx2 w keeps unit before.toks) path unit.path) (first_edited w.edit number unit before.table) ∙ x.is;
       goes = x.goes;
       found = k.fits.0;
-      grown = grown_trans before.table s.table d.state.table (grown_more before.table (entry (defines_path number) (Made (defines_of unit)) ∷ [])) k.grown;
+      grown = grown_trans before.table s.table d.state.table
+          (with_defines_has (IsGrown before.table) number unit before.table (grown_refl before.table) (grown_more before.table (entry (defines_path number) (Made (defines_of unit)) ∷ []))) k.grown;
     }
 
 -- ---- along the cut

@@ -1,8 +1,10 @@
 -- Names that an expansion replaces are linked with the names of their macros.
 use Rattle.std.proofs.Common.{◌≡◌, ℕ, zero, suc, ◌+◌, ◌-◌, Bool, true, false, cond, List, [], ◌∷◌, ◌++◌, length, map, Option, Some, None, Result, Ok, refl, subst, nat_lt}
 use Rattle.std.proofs.lemmas.Option.{none-some}
+use Rattle.cs_base.specs.Limits.{most_bytes}
 use Rattle.cs_base.specs.Token.{Token}
 use Rattle.line_shape.specs.Signs.{is_name, is_open}
+use Rattle.macro_body.specs.declared.notes.Work.{Work}
 use Rattle.macro_body.specs.declared.definitions.Form.{Form}
 use Rattle.macro_body.specs.declared.definitions.Form.TheVariants as form
 use Rattle.macro_body.specs.declared.definitions.Definition.{Definition}
@@ -11,9 +13,9 @@ use Rattle.macro_body.specs.Live.{no_macro}
 use Rattle.macro_body.specs.Macro.{Table, is_function}
 use Rattle.macro_body.specs.Bodies.{Part, chains_of, occurs_alone}
 use Rattle.macro_expand.specs.Calls.{Call, call_from, commas_of, arguments_of}
-use Rattle.macro_body.specs.Notes.{Fault, OpenCall, WrongArguments, TooMuchWork, TooDeep, Note, Replaced, Linked, Stringized, Pasted, Expanded, expanded, put_out, noted, onward}
-use Rattle.macro_body.specs.Substitution.{Arguments, Made, made, result_of, cost_of, line_number, path_string}
-use Rattle.macro_expand.specs.Expansion.{Setting, Next, most_depth, one_more, stays, Full, full, with_full, without_full, alone, full_step, full_from, spent, substituted, put_for, links_name, first_notes, replaced, added_by, called_with, called, behind_name, act, macro_of, step, steps, whole, expansion}
+use Rattle.macro_body.specs.Notes.{Fault, OpenCall, WrongArguments, TooMuchWork, TooDeep, Note, Counted, Replaced, Linked, Stringized, Pasted, Expanded, expanded, put_out, noted, onward}
+use Rattle.macro_body.specs.Substitution.{Arguments, Made, made, result_of, cost_of, number_token, line_number, path_string}
+use Rattle.macro_expand.specs.Expansion.{Setting, Next, most_depth, one_more, stays, Full, full, with_full, without_full, alone, full_step, full_from, spent, numbered, substituted, put_for, links_name, first_notes, replaced, added_by, called_with, called, behind_name, act, macro_of, step, steps, whole, expansion}
 use Rattle.macro_body.proofs.ResultLemmas.{ok_same, err_ok, onward_ok, cond_ok, cond_ok_yes}
 use Rattle.expansion_laws.proofs.ListLemmas.{AllHidden, AllLists, AllNotes, notes_split, notes_both}
 use Rattle.expansion_laws.proofs.RuleLemmas.{Rules, HasPutIn, chains_of_have, result_kept}
@@ -37,6 +39,7 @@ rules_making path = record {
   moved = λ t h. tt;
   bodies = λ name m here found. any_toks m.body;
   lines = λ name m before here found is brought. tt;
+  numbers = λ name n here low brought. tt;
   paths = λ name m here found is. tt;
   strings = λ name gap toks s here all made. tt;
   pastes = λ name x y z here px py made told. tt;
@@ -44,6 +47,7 @@ rules_making path = record {
   linked = λ name m here is found links. tt;
   stringized = λ toks s all made. tt;
   pasted = λ name x y z px py pz made. tt;
+  counted = λ name n here z. tt;
 }
 
 any_hidden : (hs : List Hidden) → AllHidden Any hs
@@ -88,6 +92,7 @@ making_agrees map table (Replaced name m before ∷ notes) h = absurd (h.0)
 making_agrees map table (Linked x y ∷ notes) h = (tt, making_agrees map table notes h.1)
 making_agrees map table (Stringized toks s ∷ notes) h = (tt, making_agrees map table notes h.1)
 making_agrees map table (Pasted x y z ∷ notes) h = (tt, making_agrees map table notes h.1)
+making_agrees map table (Counted z ∷ notes) h = (tt, making_agrees map table notes h.1)
 
 -- where links agree, names agree with those of their macros
 abbrev Agrees : (Token → List ℕ) → Table → List Note → Type 0
@@ -95,7 +100,7 @@ Agrees map table notes = AllNotes (LinkAgrees map) notes → AllNotes (NameAgree
 
 -- an expansion does so
 unfoldable Keeps : (Token → List ℕ) → Table → Next → Type 0
-Keeps map table f = (depth before : ℕ) (ts : List Hidden) (work : ℕ) (e : Expanded) → f depth before ts work ≡ Ok e → Agrees map table e.notes
+Keeps map table f = (depth before : ℕ) (ts : List Hidden) (work : Work) (e : Expanded) → f depth before ts work ≡ Ok e → Agrees map table e.notes
 
 module _ (mapped : Token → List ℕ) (set : Setting) (f : Next) (keeps : Keeps mapped set.table f) where
   abbrev M : Note → Type 0
@@ -104,18 +109,18 @@ module _ (mapped : Token → List ℕ) (set : Setting) (f : Next) (keeps : Keeps
   abbrev N : Note → Type 0
   N = NameAgrees mapped set.table
 
-  next_good : (depth before : ℕ) (ts : List Hidden) (work : ℕ) (e : Expanded) → f depth before ts work ≡ Ok e → AllNotes M e.notes → AllNotes N e.notes
+  next_good : (depth before : ℕ) (ts : List Hidden) (work : Work) (e : Expanded) → f depth before ts work ≡ Ok e → AllNotes M e.notes → AllNotes N e.notes
   unfolding Keeps
   next_good = keeps
 
-  stays_good : (depth before : ℕ) (t : Hidden) (ts : List Hidden) (work : ℕ) (e : Expanded) → stays f depth before t ts work ≡ Ok e → AllNotes M e.notes → AllNotes N e.notes
+  stays_good : (depth before : ℕ) (t : Hidden) (ts : List Hidden) (work : Work) (e : Expanded) → stays f depth before t ts work ≡ Ok e → AllNotes M e.notes → AllNotes N e.notes
   stays_good depth before t ts work e is told =
       let i = onward_ok {A = Expanded} (f depth (one_more depth before) ts work) (λ o. Ok (put_out t o)) e is in
       let Q : Expanded → Type 0 = λ v. AllNotes M v.notes → AllNotes N v.notes in
       subst Q (ok_same (put_out t i.0) e i.2) (λ r. next_good depth (one_more depth before) ts work i.0 i.1 r) told
 
-  full_step_good : (wanted : Bool) (depth before : ℕ) (name : Token) (a : List Hidden) (work : ℕ) (rest : ℕ → Result Full Fault)
-      → ((left : ℕ) (v : Full) → rest left ≡ Ok v → AllNotes M v.notes → AllNotes N v.notes)
+  full_step_good : (wanted : Bool) (depth before : ℕ) (name : Token) (a : List Hidden) (work : Work) (rest : Work → Result Full Fault)
+      → ((left : Work) (v : Full) → rest left ≡ Ok v → AllNotes M v.notes → AllNotes N v.notes)
       → (v : Full) → full_step wanted f depth before name a work rest ≡ Ok v → AllNotes M v.notes → AllNotes N v.notes
   full_step_good false depth before name a work rest behind v is told =
       let i = onward_ok {A = Full} (rest work) (λ x. Ok (without_full x)) v is in
@@ -130,7 +135,7 @@ module _ (mapped : Token → List ℕ) (set : Setting) (f : Next) (keeps : Keeps
       let each = notes_split M i.0.notes j.0.notes both in
       notes_both N i.0.notes j.0.notes (next_good (suc depth) before a work i.0 c.1 each.0) (behind i.0.left j.0 j.1 each.1)) told
 
-  full_good : (depth before : ℕ) (name : Token) (chains : List (List Part)) (i : ℕ) (lists : List (List Hidden)) (work : ℕ) (v : Full)
+  full_good : (depth before : ℕ) (name : Token) (chains : List (List Part)) (i : ℕ) (lists : List (List Hidden)) (work : Work) (v : Full)
       → full_from f depth before name chains i lists work ≡ Ok v → AllNotes M v.notes → AllNotes N v.notes
   full_good depth before name chains i [] work v is told =
       let Q : Full → Type 0 = λ x. AllNotes N x.notes in
@@ -139,16 +144,16 @@ module _ (mapped : Token → List ℕ) (set : Setting) (f : Next) (keeps : Keeps
       full_step_good (occurs_alone i chains) depth before name a work (full_from f depth before name chains (suc i) lists)
       (λ left x x_is r. full_good depth before name chains (suc i) lists left x x_is r) v is told
 
-  spent_good : (name : Token) (cost work : ℕ) (r : Result (Made (List Hidden)) Fault) → ((m : Made (List Hidden)) → r ≡ Ok m → AllNotes N m.notes)
+  spent_good : (name : Token) (cost : ℕ) (work : Work) (r : Result (Made (List Hidden)) Fault) → ((m : Made (List Hidden)) → r ≡ Ok m → AllNotes N m.notes)
       → (e : Expanded) → spent name cost work r ≡ Ok e → AllNotes N e.notes
   spent_good name cost work r fine e is =
-      let put : Made (List Hidden) → Result Expanded Fault = λ m. Ok (expanded m.value m.notes (work - cost)) in
-      let c = cond_ok (nat_lt work cost) (TooMuchWork name.at) (onward r put) e is in
+      let put : Made (List Hidden) → Result Expanded Fault = λ m. Ok (expanded m.value m.notes (record work { left = work.left - cost })) in
+      let c = cond_ok (nat_lt work.left cost) (TooMuchWork name.at) (onward r put) e is in
       let i = onward_ok {A = Made (List Hidden)} r put e c.1 in
       let Q : Expanded → Type 0 = λ x. AllNotes N x.notes in
-      subst Q (ok_same (expanded i.0.value i.0.notes (work - cost)) e i.2) (fine i.0 i.1)
+      subst Q (ok_same (expanded i.0.value i.0.notes (record work { left = work.left - cost })) e i.2) (fine i.0 i.1)
 
-  substituted_good : (depth before : ℕ) (name : Token) (m : Definition) (raw : List (List Hidden)) (work : ℕ) (e : Expanded)
+  substituted_good : (depth before : ℕ) (name : Token) (m : Definition) (raw : List (List Hidden)) (work : Work) (e : Expanded)
       → substituted f depth before name m raw work ≡ Ok e → AllNotes M e.notes → AllNotes N e.notes
   substituted_good depth before name m raw work e is told =
       let args : List (List Hidden) → Arguments = λ lists. record { raw = raw; full = lists } in
@@ -169,12 +174,20 @@ module _ (mapped : Token → List ℕ) (set : Setting) (f : Next) (keeps : Keeps
       let Q : Made (List Hidden) → Type 0 = λ x. AllNotes N x.notes in
       subst Q (ok_same (made (hidden t [] ∷ []) []) m e) tt
 
-  put_for_good : (kind : Form) (depth before : ℕ) (name : Token) (m : Definition) (raw : List (List Hidden)) (work : ℕ) (e : Expanded)
+  one_number : (t : Token) (m : Made (List Hidden)) → ◌≡◌ {A = Result (Made (List Hidden)) Fault} (Ok (made (hidden t [] ∷ []) (Counted t ∷ []))) (Ok m) → AllNotes N m.notes
+  one_number t m e =
+      let Q : Made (List Hidden) → Type 0 = λ x. AllNotes N x.notes in
+      subst Q (ok_same (made (hidden t [] ∷ []) (Counted t ∷ [])) m e) (tt, tt)
+
+  put_for_good : (kind : Form) (depth before : ℕ) (name : Token) (m : Definition) (raw : List (List Hidden)) (work : Work) (e : Expanded)
       → put_for kind set.path f depth before name m raw work ≡ Ok e → AllNotes M e.notes → AllNotes N e.notes
   put_for_good form.Line depth before name m raw work e is told =
       spent_good name 1 work (Ok (made (hidden (line_number name) [] ∷ []) [])) (no_notes (line_number name)) e is
   put_for_good form.File depth before name m raw work e is told =
       spent_good name 1 work (Ok (made (hidden (path_string set.path name) [] ∷ []) [])) (no_notes (path_string set.path name)) e is
+  put_for_good form.Counter depth before name m raw work e is told =
+      let c = cond_ok_yes (nat_lt work.counter most_bytes) (TooMuchWork name.at) (numbered name work) e is in
+      spent_good name 1 (record work { counter = work.counter + 1 }) _ (one_number (number_token name work.counter)) e c.1
   put_for_good form.Object depth before name m raw work e is told = substituted_good depth before name m raw work e is told
   put_for_good form.Function depth before name m raw work e is told = substituted_good depth before name m raw work e is told
 
@@ -185,7 +198,7 @@ module _ (mapped : Token → List ℕ) (set : Setting) (f : Next) (keeps : Keeps
   first_good false name m before is found told = (record { identifier = found.0; definition = m; defined = found.1; same = refl; agrees = λ links. absurd (cc) }, tt)
 
   replaced_good : (depth before : ℕ) (name : Token) (m : Definition) (added : List (List ℕ)) → (is_name name ≡ true) × (set.table name.text ≡ Some m)
-      → (raw : List (List Hidden)) (ts : List Hidden) (work : ℕ) (e : Expanded)
+      → (raw : List (List Hidden)) (ts : List Hidden) (work : Work) (e : Expanded)
       → replaced set f depth before name m added raw ts work ≡ Ok e → AllNotes M e.notes → AllNotes N e.notes
   replaced_good depth before name m added found raw ts work e is told =
       let after : Expanded → Result Expanded Fault = λ x. onward (f depth before (map (hide_more added) x.toks ++ ts) x.left) (λ rest. Ok (noted (first_notes name m before ++ x.notes) rest)) in
@@ -201,7 +214,7 @@ module _ (mapped : Token → List ℕ) (set : Setting) (f : Next) (keeps : Keeps
       let own : AllNotes N (first_notes name m before) = first_good (links_name m.form) name m before refl found second.0 in
       notes_both N (first_notes name m before ++ i.0.notes) j.0.notes (notes_both N (first_notes name m before) i.0.notes own k) l) told
 
-  called_good : (depth before : ℕ) (t : Hidden) (m : Definition) → (is_name t.tok ≡ true) × (set.table t.tok.text ≡ Some m) → (work : ℕ) (call : Option Call) (e : Expanded)
+  called_good : (depth before : ℕ) (t : Hidden) (m : Definition) → (is_name t.tok ≡ true) × (set.table t.tok.text ≡ Some m) → (work : Work) (call : Option Call) (e : Expanded)
       → called set f depth before t m work call ≡ Ok e → AllNotes M e.notes → AllNotes N e.notes
   called_good depth before t m found work None e is told = err_ok (OpenCall t.tok.at) e is
   called_good depth before t m found work (Some call) e is told = by (arguments_of m call.arguments) is
@@ -210,7 +223,7 @@ module _ (mapped : Token → List ℕ) (set : Setting) (f : Next) (keeps : Keeps
       by None k = err_ok (WrongArguments t.tok.at) e k
       by (Some raw) k = replaced_good depth before t.tok m (added_by t call.close) found raw call.rest work e k told
 
-  act_good : (depth before : ℕ) (t : Hidden) (ts : List Hidden) (work : ℕ) (e : Expanded) (m : Option Definition)
+  act_good : (depth before : ℕ) (t : Hidden) (ts : List Hidden) (work : Work) (e : Expanded) (m : Option Definition)
       → macro_of set.table t ≡ m → act set f depth before t ts work m ≡ Ok e → AllNotes M e.notes → AllNotes N e.notes
   act_good depth before t ts work e None is_m is told = stays_good depth before t ts work e is told
   act_good depth before t ts work e (Some m) is_m is told = by (is_function m.form) is
@@ -230,7 +243,7 @@ module _ (mapped : Token → List ℕ) (set : Setting) (f : Next) (keeps : Keeps
       by true k = in_call ts k
       by false k = replaced_good depth before t.tok m (t.hides ++ t.tok.text ∷ []) found [] ts work e k told
 
-  step_good : (depth before : ℕ) (ts : List Hidden) (work : ℕ) (e : Expanded) → step set f depth before ts work ≡ Ok e → AllNotes M e.notes → AllNotes N e.notes
+  step_good : (depth before : ℕ) (ts : List Hidden) (work : Work) (e : Expanded) → step set f depth before ts work ≡ Ok e → AllNotes M e.notes → AllNotes N e.notes
   step_good depth before [] work e is told =
       let Q : Expanded → Type 0 = λ x. AllNotes N x.notes in
       subst Q (ok_same (expanded [] [] work) e is) tt
@@ -247,16 +260,16 @@ steps_keep map set zero = λ depth before ts work e is told.
     subst Q (ok_same (expanded [] [] work) e is) tt
 steps_keep map set (suc n) = step_keeps map set (steps n set) (steps_keep map set n)
 
-whole_keeps : (map : Token → List ℕ) (set : Setting) (depth before : ℕ) (ts : List Hidden) (work : ℕ) (e : Expanded)
+whole_keeps : (map : Token → List ℕ) (set : Setting) (depth before : ℕ) (ts : List Hidden) (work : Work) (e : Expanded)
     → whole set depth before ts work ≡ Ok e → Agrees map set.table e.notes
 unfolding whole Keeps
 whole_keeps map set depth before ts work e is =
-    let keeps : (depth before : ℕ) (ts2 : List Hidden) (work2 : ℕ) (e : Expanded) → steps (suc (work + length ts)) set depth before ts2 work2 ≡ Ok e
-    → Agrees map set.table e.notes = steps_keep map set (suc (work + length ts)) in
+    let keeps : (depth before : ℕ) (ts2 : List Hidden) (work2 : Work) (e : Expanded) → steps (suc (work.left + length ts)) set depth before ts2 work2 ≡ Ok e
+    → Agrees map set.table e.notes = steps_keep map set (suc (work.left + length ts)) in
     keeps depth before ts work e is
 
 -- Where both tokens of each link are mapped to the same, so are replaced names and those of their macros.
-pub replaced_agree : (map : Token → List ℕ) (table : Table) (path : List ℕ) (run : List Token) (work : ℕ) (e : Expanded)
+pub replaced_agree : (map : Token → List ℕ) (table : Table) (path : List ℕ) (run : List Token) (work : Work) (e : Expanded)
     → expansion table path run work ≡ Ok e → AllNotes (LinkAgrees map) e.notes → AllNotes (NameAgrees map table) e.notes
 unfolding expansion
 replaced_agree map table path run work e is told = whole_keeps map (record { table = table; path = path }) 0 0 (unhidden run) work e is told

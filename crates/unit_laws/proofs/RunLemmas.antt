@@ -5,6 +5,7 @@ use Rattle.std.proofs.lemmas.List.{length-map}
 use Rattle.cs_base.specs.Token.{Token}
 use Rattle.cs_base.specs.Units.{UnitValue}
 use Rattle.line_shape.specs.declared.items.ItemKind.TheVariants.{Run}
+use Rattle.macro_body.specs.declared.notes.Work.{Work}
 use Rattle.macro_body.specs.Hides.{toks_of}
 use Rattle.macro_body.specs.Notes as expansion
 use Rattle.macro_expand.specs.Expansion as expanding
@@ -109,7 +110,7 @@ module _ (w : World) (runs : RunsToo w) (unit : UnitValue) (earlier : ℕ) where
                       (only (toks_of g.e2.toks) (record (edited_state w.edit s) { work = g.e2.left; before = s.before + length (toks_of g.e2.toks) })))) ends))
                       (ap (λ (n : ℕ). nat_lt (most_toks one) (s.before + n)) many ∙ few)
                       ∙ ap (λ (n : ℕ). done g.e2 (record (edited_state w.edit s) { work = g.e2.left; before = s.before + n })) many
-                      ∙ ap (λ (n : ℕ). done g.e2 (record (edited_state w.edit s) { work = n; before = s.before + length (toks_of e.toks) })) g.left;
+                      ∙ ap (λ (n : Work). done g.e2 (record (edited_state w.edit s) { work = n; before = s.before + length (toks_of e.toks) })) g.left;
                   goes = (refl, g.goes);
                 };
           }

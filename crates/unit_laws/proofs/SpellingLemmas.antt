@@ -13,7 +13,7 @@ use Rattle.source_files.specs.Sources.{read_as, source_kept}
 use Rattle.unit_steps.specs.Conditions.{answer_for}
 use Rattle.expansion_laws.specs.Spelled.{fits, is_spelled}
 use Rattle.expansion_laws.proofs.ListLemmas.{toks_pass, pass_toks}
-use Rattle.expansion_laws.proofs.SpelledLaw.{standing_spelled, pasted_spelled, string_spelled, number_spelled, path_spelled}
+use Rattle.expansion_laws.proofs.SpelledLaw.{standing_spelled, pasted_spelled, string_spelled, number_spelled, counted_spelled, path_spelled}
 use Rattle.unit_laws.specs.UnitLinks.{IsIn}
 use Rattle.unit_laws.specs.UnitSpelling.{FilesAreSpelled, UnitTokensAreSpelled}
 use Rattle.unit_laws.proofs.DoneLemmas.{UnitRules}
@@ -53,6 +53,7 @@ rules_spelled M table = record {
   placed = λ name t gap here h. standing_spelled name t here h;
   items = λ number k evaluated before file i is at told. from_files IsSpelled table (λ number file is. toks_pass is_spelled file.text.toks (files_are_spelled table number file is)) number k evaluated file i is at;
   lines = λ name run before more here is brought. number_spelled name here;
+  numbers = λ name n run before here low brought. counted_spelled name n here low;
   answers = λ word b here brought. answer_spelled word b here;
   paths = λ path name here. path_spelled path name here;
   strings = λ name gap toks s here all is. string_spelled name toks s here is;

@@ -23,7 +23,7 @@ use Rattle.unit_steps.specs.Below.cond_eval.declared.faults.CondFault.{CondFault
 use Rattle.unit_steps.specs.Below.cond_eval.Evaluation.{condition}
 use Rattle.source_files.specs.Limits.{the_limits}
 use Rattle.source_files.specs.Faults.{Fault, fault_at, place_in, first_place}
-use Rattle.source_files.specs.Files.{Source, SourceFile, Table, Carried, defines_path, asked}
+use Rattle.source_files.specs.Files.{Source, SourceFile, Table, Carried, asked}
 use Rattle.unit_steps.specs.Notes.{Note, Reaches, Happened, Undefined, Left, Answered, Named, Entered, Exited, ReadOnce}
 use Rattle.unit_steps.specs.Names.{spelled_in, name_links, with_name}
 use Rattle.unit_steps.specs.State.{Context, context, State, Did, did, Outcome, only, noted, onward}
@@ -39,7 +39,7 @@ use Rattle.source_files.specs.HeaderNames.{is_header, header_in, header_of_toks,
 use Rattle.source_files.specs.Tables.{IsGrown}
 use Rattle.include_tree.specs.Sections.{Group, Processed, Awaited, Over, Skipped, Section, section, are_processed, group_if, group_after, group_of_else, Turn, Opens, GoesOn, GoesLast, Ends, Stays, turn_of}
 use Rattle.source_files.specs.Sources.{source_at}
-use Rattle.include_tree.specs.Unit.{first_state, outer_file, main_file, both_files, unit_outcome}
+use Rattle.include_tree.specs.Unit.{pseudo_path, first_state, outer_file, main_file, both_files, unit_outcome}
 use Rattle.unit_steps.specs.Questions.{Question, Unasked, Looks, Lacks, asks_next, questions_from, found_as}
 use Rattle.include_tree.specs.Asking.{there, is_there, look, looked, gnu_known, gnu_asked, gnu_holds, asks_files, opens_in, goes_in}
 use Rattle.include_tree.specs.Walk.{ItemText, items_in, processed, Stepped, stepped, reaching, reaching_alive, go_on, opens, goes_on, in_section, turned, is_foreign, foreign_line, item_step, file_end, walk, file_items}
@@ -732,5 +732,5 @@ unit_goes R source number unit before d table is grown rules =
     let s : State = first_state the_limits number unit before.table in
     let all : GoesAny R table rules {A = List Token} (Unit {0}) s (Ok d) =
     subst (λ (o : Outcome (List Token)). GoesAny R table rules {A = List Token} (Unit {0}) s o) is
-    (both_files_go R table rules source unit before.toks (defines_path number) unit.path s) in
+    (both_files_go R table rules source unit before.toks (pseudo_path number unit before.table) unit.path s) in
     (all.1 tt grown).1

@@ -1,6 +1,7 @@
 -- Tests that a unit keeps.
 use Rattle.std.proofs.Common.{◌≡◌, true, false, List, sym, subst}
 use Rattle.cs_base.specs.Token.{Token}
+use Rattle.macro_body.specs.Substitution.{number_token}
 use Rattle.source_files.specs.Files.{Table}
 use Rattle.unit_steps.specs.Notes.{Note}
 use Rattle.unit_steps.specs.Conditions.{answer_for}
@@ -12,7 +13,7 @@ use Rattle.unit_laws.specs.UnitTests.{FilesPass, BroughtPass, UnitKeepsTests}
 use Rattle.unit_laws.proofs.DoneLemmas.{UnitRules}
 use Rattle.unit_laws.proofs.NoteLemmas.{LinkHas, EventHas, in_at}
 use Rattle.unit_laws.proofs.PartLemmas.{from_files}
-use Rattle.unit_laws.proofs.TextLemmas.{text_is, unit_text_has, line_event, answer_among}
+use Rattle.unit_laws.proofs.TextLemmas.{text_is, unit_text_has, line_event, number_among, answer_among}
 
 abbrev Passes : Test → Token → Type 0
 Passes p t = p t ≡ true
@@ -27,6 +28,9 @@ rules_pass p text notes toks table is blind files brought made = record {
   lines = λ name run before more here spelled at.
       let e = line_event text notes toks name run before more is spelled at in
       brought.lines e.0 name e.1.0 e.1.1 here;
+  numbers = λ name n run before here low at.
+      let among = number_among text notes toks (number_token name n) run before is at in
+      toks_at (Passes p) text.answers (toks_pass p text.answers brought.answers) (number_token name n) among.0 among.1;
   answers = λ word b here at.
       let among = answer_among text notes toks (answer_for word b) is at in
       toks_at (Passes p) text.answers (toks_pass p text.answers brought.answers) (answer_for word b) among.0 among.1;

@@ -61,6 +61,13 @@ line_event text notes toks name run before more is spelled at =
     let there : IsIn (flat_map events_of notes) e = flat_in events_of notes (Happened run before (expansion.Replaced name line_macro.name more)) e at.0 at.1 (0, refl) in
     (e, (subst (λ (u : UnitTextValue). IsIn u.events e) is there, record { kind = refl; name = refl; first = refl; spelled = spelled }))
 
+-- a number that was brought in place of a name is among the answers
+pub number_among : (text : UnitTextValue) (notes : List Note) (toks : List Token) (t : Token) (run : Bool) (before : ℕ) → unit_text toks notes ≡ text
+    → IsIn notes (Happened run before (expansion.Counted t)) → IsOneOf text.answers t
+number_among text notes toks t run before is at =
+    let there : IsIn (flat_map answers_of notes) t = flat_in answers_of notes (Happened run before (expansion.Counted t)) t at.0 at.1 (0, refl) in
+    subst (λ (u : UnitTextValue). IsIn u.answers t) is there
+
 -- a number that stands for an operand of `defined` is among the answers
 pub answer_among : (text : UnitTextValue) (notes : List Note) (toks : List Token) (t : Token) → unit_text toks notes ≡ text → IsIn notes (Answered t) → IsOneOf text.answers t
 answer_among text notes toks t is at =

@@ -2,7 +2,7 @@
 use Rattle.std.proofs.Common.{◌≡◌, false, List, refl, sym, ◌∙◌, subst}
 use Rattle.cs_base.specs.Token.{Token}
 use Rattle.lexer.specs.Characters.{double_quote}
-use Rattle.macro_body.specs.Substitution.{put_in, line_number, path_string}
+use Rattle.macro_body.specs.Substitution.{put_in, number_token, line_number, path_string}
 use Rattle.source_files.specs.Files.{Table}
 use Rattle.unit_steps.specs.Notes.{Note}
 use Rattle.unit_steps.specs.Conditions.{answer_for}
@@ -15,7 +15,7 @@ use Rattle.unit_laws.specs.UnitTokens.{FilesAreWhole, NumbersAreWhole, UnitToken
 use Rattle.unit_laws.proofs.DoneLemmas.{UnitRules}
 use Rattle.unit_laws.proofs.NoteLemmas.{in_at, LinkHas, EventHas}
 use Rattle.unit_laws.proofs.PartLemmas.{from_files}
-use Rattle.unit_laws.proofs.TextLemmas.{text_is, unit_text_has, line_event, answer_among}
+use Rattle.unit_laws.proofs.TextLemmas.{text_is, unit_text_has, line_event, number_among, answer_among}
 
 -- ---- links
 
@@ -29,6 +29,7 @@ rules_any M table = record {
   placed = λ name t gap here h. tt;
   items = λ number k evaluated before file i is at told. from_files Any table (λ number file is. each_tok Any file.text.toks (λ t k at. tt)) number k evaluated file i is at;
   lines = λ name run before more here is brought. tt;
+  numbers = λ name n run before here low brought. tt;
   answers = λ word b here brought. tt;
   paths = λ path name here. tt;
   strings = λ name gap toks s here all is. tt;
@@ -54,6 +55,7 @@ rules_whole among files text notes toks table quote is whole numbers = record {
   lines = λ name run before more here spelled brought.
       let e = line_event text notes toks name run before more is spelled brought in
       numbers.lines e.0 name e.1.0 e.1.1;
+  numbers = λ name n run before here low brought. numbers.answers (number_token name n) (number_among text notes toks (number_token name n) run before is brought);
   answers = λ word b here brought. numbers.answers (answer_for word b) (answer_among text notes toks (answer_for word b) is brought);
   paths = λ path name here. λ h. absurd (quoted_fails among _ _ quote refl h);
   strings = λ name gap ts s here all made. string_whole among files name gap ts s quote made;
@@ -97,6 +99,7 @@ rules_stand M table = record {
     place = record { token = t; one = (k, at); at = refl; line = refl };
   })) number k evaluated file i is at;
   lines = λ name run before more here is brought. stands_as table name (line_number name) here refl refl;
+  numbers = λ name n run before here low brought. stands_as table name (number_token name n) here refl refl;
   answers = λ word b here brought. stands_as table word (answer_for word b) here refl refl;
   paths = λ path name here. stands_as table name (path_string path name) here refl refl;
   strings = λ name gap toks s here all is. stands_as table name (put_in name gap s) here refl refl;

@@ -1,5 +1,5 @@
 -- Names of which a unit tells hang together by its links.
-use Rattle.std.proofs.Common.{◌≡◌, ℕ, Bool, true, false, cond, List, [], ◌∷◌, ◌++◌, map, Option, Some, None, is_some, Ok, refl, sym, subst, ap, ◌∙◌, codes, inl, inr}
+use Rattle.std.proofs.Common.{◌≡◌, ℕ, ◌||◌, Bool, true, false, cond, List, [], ◌∷◌, ◌++◌, map, Option, Some, None, is_some, Ok, refl, sym, subst, ap, ◌∙◌, codes, inl, inr}
 use Rattle.std.specs.Prelude.{◌⊎◌}
 use Rattle.std.specs.List.{flat_map, list_all}
 use Rattle.std.specs.Option.{is_none, option_map}
@@ -10,12 +10,12 @@ use Rattle.cs_base.proofs.FileMapLemmas.{bytes_eq-equal, bytes_eq-same}
 use Rattle.cs_base.specs.declared.positions.Pos.{Pos}
 use Rattle.cs_base.specs.declared.tokens.Link.{Link}
 use Rattle.cs_base.specs.Token.{Token, origin_at}
-use Rattle.cs_base.specs.Units.{UnitValue}
+use Rattle.cs_base.specs.Units.{UnitValue, is_gnu}
 use Rattle.lexer.specs.FileText.{file_text}
 use Rattle.line_shape.specs.MacroLine.{MacroParts, macro_of}
 use Rattle.line_shape.specs.Signs.{is_name}
 use Rattle.macro_body.specs.declared.definitions.Definition.{Definition}
-use Rattle.macro_body.specs.Defining.{form_of, definition_of, defined_by, line_macro, file_macro, first_macros, in_gnu}
+use Rattle.macro_body.specs.Defining.{form_of, definition_of, defined_by, line_macro, file_macro, counter_macro, standard_macros, first_macros, in_gnu}
 use Rattle.macro_body.specs.Live.{no_macro, with_macro}
 use Rattle.macro_body.specs.Macro.{Table as Macros}
 use Rattle.macro_body.specs.Notes as expansion
@@ -57,7 +57,7 @@ module _ (mapped : Token → List ℕ) where
   as_first_later : (names more : List Token) (text : List ℕ) (t : Token) → Stay names more → AsFirst names text t → AsFirst more text t
   as_first_later names more text t stay h = (h.0, stay text h.0 h.1, h.2)
 
-  -- what is told of a name: it is so of those that are not `__LINE__` or `__FILE__`
+  -- what is told of a name: it is so of those that are not `__LINE__`, `__FILE__` or `__COUNTER__`
   abbrev NameIs : List Token → Token → Type 0
   NameIs names t = is_first_name t.text ≡ false → AsFirst names t.text t
 
@@ -92,6 +92,7 @@ module _ (mapped : Token → List ℕ) where
   happened_later names more (expansion.Linked x y) stay h = tt
   happened_later names more (expansion.Stringized toks s) stay h = tt
   happened_later names more (expansion.Pasted x y z) stay h = tt
+  happened_later names more (expansion.Counted z) stay h = tt
 
   told_later : (names more : List Token) (note : Note) → Stay names more → ToldIs names note → ToldIs more note
   told_later names more (Happened run before note) stay h = happened_later names more note stay h
@@ -289,6 +290,7 @@ module _ (mapped : Token → List ℕ) where
   happened_is s (expansion.Linked x y) macros h = tt
   happened_is s (expansion.Stringized toks made) macros h = tt
   happened_is s (expansion.Pasted x y z) macros h = tt
+  happened_is s (expansion.Counted z) macros h = tt
 
   all_happened : (run : Bool) (before : ℕ) (s : State) (notes : List expansion.Note) → MacrosAre s → AllNotes (NameAgrees mapped s.macros) notes
       → AllIn (ToldIs s.names) (map (Happened run before) notes)
@@ -362,11 +364,26 @@ module _ (mapped : Token → List ℕ) where
   file_is name m true old same there e = subst (MacroIs [] name) (same_Some file_macro m e) (record { links = λ l. absurd (cc); first = λ never. same refl; nowhere = λ never. refl })
   file_is name m false old same there e = there e
 
-  first_macros_are : (name : List ℕ) (m : Definition) → first_macros name ≡ Some m → MacroIs [] name m
-  first_macros_are name m e =
-      file_is name m (bytes_eq name file_macro.name.text) (with_macro line_macro no_macro name)
-      (λ same. or_right (bytes_eq name (codes "__LINE__")) (bytes_eq name (codes "__FILE__")) same)
-      (λ k. line_is name m (bytes_eq name line_macro.name.text) (λ same. or_left (bytes_eq name (codes "__LINE__")) (bytes_eq name (codes "__FILE__")) same) k) e
+  counter_is : (name : List ℕ) (m : Definition) (b : Bool) (old : Option Definition) → (b ≡ true → is_first_name name ≡ true) → (old ≡ Some m → MacroIs [] name m)
+      → cond b (Some counter_macro) old ≡ Some m → MacroIs [] name m
+  counter_is name m true old same there e = subst (MacroIs [] name) (same_Some counter_macro m e) (record { links = λ l. absurd (cc); first = λ never. same refl; nowhere = λ never. refl })
+  counter_is name m false old same there e = there e
+
+  standard_macros_are : (name : List ℕ) (m : Definition) → standard_macros name ≡ Some m → MacroIs [] name m
+  standard_macros_are name m e =
+      let line : Bool = bytes_eq name (codes "__LINE__") in
+      let file : Bool = bytes_eq name (codes "__FILE__") in
+      let counter : Bool = bytes_eq name (codes "__COUNTER__") in
+      file_is name m file (with_macro line_macro no_macro name) (λ same. or_right line (file || counter) (or_left file counter same))
+      (λ k. line_is name m line (λ same. or_left line (file || counter) same) k) e
+
+  first_macros_are : (gnu : Bool) (name : List ℕ) (m : Definition) → first_macros gnu name ≡ Some m → MacroIs [] name m
+  first_macros_are false name m e = standard_macros_are name m e
+  first_macros_are true name m e =
+      let line : Bool = bytes_eq name (codes "__LINE__") in
+      let file : Bool = bytes_eq name (codes "__FILE__") in
+      let counter : Bool = bytes_eq name (codes "__COUNTER__") in
+      counter_is name m counter (standard_macros name) (λ same. or_right line (file || counter) (or_right file counter same)) (λ k. standard_macros_are name m k) e
 
   -- ---- what links and events tell
 
@@ -375,6 +392,7 @@ module _ (mapped : Token → List ℕ) where
   happened_agrees (expansion.Replaced name m before) h = tt
   happened_agrees (expansion.Stringized toks made) h = tt
   happened_agrees (expansion.Pasted x y z) h = tt
+  happened_agrees (expansion.Counted z) h = tt
 
   note_agrees : (note : Note) → ((l : Link) → IsIn (links_of note) l → mapped l.x ≡ mapped l.y) → Agrees note
   note_agrees (Linked x y) h = h (link x y) (0, refl)
@@ -404,6 +422,7 @@ module _ (mapped : Token → List ℕ) where
   happened_events names run before (expansion.Linked x y) h = tt
   happened_events names run before (expansion.Stringized toks made) h = tt
   happened_events names run before (expansion.Pasted x y z) h = tt
+  happened_events names run before (expansion.Counted z) h = tt
 
   note_events : (names : List Token) (note : Note) → ToldIs names note → AllIn (EventIs names) (events_of note)
   note_events names (Happened run before note) h = happened_events names run before note h
@@ -438,7 +457,7 @@ module _ (mapped : Token → List ℕ) where
       let g = unit_goes Goes source number unit before d d.state.table is (grown_refl d.state.table) (step_rules d.state.table) in
       let links : AllIn Agrees d.notes =
       each_in Agrees d.notes (λ note k at. note_agrees note (λ l j. own l (flat_in links_of d.notes note l k at j))) in
-      (g.told links first_macros_are).1
+      (g.told links (first_macros_are (is_gnu unit.standard))).1
 
   unit_names : (source : Source) (number : ℕ) (unit : UnitValue) (before : Carried) (p : Preprocessed) → IsText source number unit before p → LinksAgree mapped p.text
       → (names : List Token) × ((t : Token) → IsTold p.text t → NameIs names t)

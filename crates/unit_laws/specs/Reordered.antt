@@ -1,5 +1,5 @@
 -- Units over files in which the items of lists change places (ISO/IEC 9899:1999, 5.1.1.2 phase 4, 6.10.3).
-use Rattle.std.specs.Prelude.{◌≡◌, ◌≤◌, ◌<◌, ℕ, ◌+◌, false, List, length, codes, None, Some, Ok, slice_get}
+use Rattle.std.specs.Prelude.{◌≡◌, ◌≤◌, ◌<◌, ℕ, ◌+◌, true, false, List, length, None, Some, Ok, slice_get}
 use Rattle.cs_base.specs.Token.{Token}
 use Rattle.cs_base.specs.Units.{UnitValue}
 use Rattle.line_shape.specs.declared.items.ItemKind.TheVariants.{Run}
@@ -20,16 +20,16 @@ use Rattle.list_cuts.specs.Cuts.{Cut, IsOrder, arranged, AreOf}
 use Rattle.list_cuts.specs.CutOf.{front, back}
 use Rattle.expansion_laws.specs.Arranging.{SignsStand, MarksStand, AreDistinct, in_lists, StandFor}
 use Rattle.unit_laws.specs.Edited.{Edit, IsEditedSource, edited_carried}
-use Rattle.unit_laws.specs.Walking.{KeepsTexts, text_items, IsEdited, IsOf, plains}
+use Rattle.unit_laws.specs.Walking.{is_line_word, KeepsTexts, text_items, IsEdited, IsOf, plains}
 
 -- ---- lists in a unit
 
--- The lists of a cut stand in a unit: their marks were put in by no macro; no item is reached in a list; and no `__LINE__` is
--- replaced in one (6.10.8).
+-- The lists of a cut stand in a unit: their marks were put in by no macro; no item is reached in a list; and no `__LINE__` or
+-- `__COUNTER__` is replaced in one.
 pub record ListsStand (c : Cut) (text : UnitTextValue) : Type 0 where
   pub marks : SignsStand c text.toks
   pub reached : (r : Reached) → IsOf text.reached r → in_lists 0 c r.before ≡ false
-  pub lines : (e : Event) (name : Token) → IsOf text.events e → e.kind ≡ kind.Replaced → e.name ≡ Some name → e.def ≡ None → name.text ≡ codes "__LINE__"
+  pub lines : (e : Event) (name : Token) → IsOf text.events e → e.kind ≡ kind.Replaced → e.name ≡ Some name → e.def ≡ None → is_line_word name.text ≡ true
       → in_lists 0 c e.before ≡ false
 
 -- the cut of so many tokens behind so many others, by that of the tokens of the unit

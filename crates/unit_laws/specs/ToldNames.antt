@@ -20,9 +20,9 @@ use Rattle.include_tree.specs.Preprocessed.{Preprocessed, preprocessed}
 use Rattle.include_tree.specs.Unit.{unit_outcome}
 use Rattle.unit_laws.specs.UnitLinks.{IsIn}
 
--- the name of a macro with which each unit begins (6.10.8): where it is replaced, it is linked with nothing
+-- the name of a macro with which each unit begins (6.10.8), or each of GNU C: where it is replaced, it is linked with nothing
 abbrev pub is_first_name : List ℕ → Bool
-is_first_name text = bytes_eq text (codes "__LINE__") || bytes_eq text (codes "__FILE__")
+is_first_name text = bytes_eq text (codes "__LINE__") || (bytes_eq text (codes "__FILE__") || bytes_eq text (codes "__COUNTER__"))
 
 -- an event of the unit tells of the name
 pub record IsTold (text : UnitTextValue) (name : Token) : Type 0 where

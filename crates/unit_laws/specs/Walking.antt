@@ -1,15 +1,14 @@
 -- Units over files as they were and over edited ones, where the lines of directives stay, and the runs of text lines do in
 -- the edited files what they did (ISO/IEC 9899:1999, 5.1.1.2 phase 4, 6.10).
-use Rattle.std.specs.Prelude.{◌≡◌, ◌≤◌, ◌<◌, ℕ, ◌+◌, Bool, true, false, ◌⊎◌, List, [], ◌∷◌, ◌++◌, map, length, Some, Ok, codes, slice_get}
+use Rattle.std.specs.Prelude.{◌≡◌, ◌≤◌, ◌<◌, ℕ, ◌+◌, ◌||◌, Bool, true, false, ◌⊎◌, List, [], ◌∷◌, ◌++◌, map, length, None, Some, Ok, codes, slice_get}
+use Rattle.std.specs.Str.{bytes_eq}
 use Rattle.cs_base.specs.declared.tokens.Kind.{Kind}
-use Rattle.cs_base.specs.Token.{Token}
+use Rattle.cs_base.specs.Token.{Token, origin_at}
 use Rattle.cs_base.specs.Units.{UnitValue}
 use Rattle.lexer.specs.FileText.{TextValue, file_text}
 use Rattle.line_shape.specs.Directives.{is_run}
 use Rattle.line_shape.specs.declared.items.ItemKind.TheVariants.{Run}
 use Rattle.macro_body.specs.declared.definitions.Definition.{Definition}
-use Rattle.macro_body.specs.declared.definitions.Form.TheVariants as form
-use Rattle.macro_body.specs.Defining.{line_macro}
 use Rattle.macro_body.specs.Hides.{toks_of}
 use Rattle.macro_body.specs.Notes as expansion
 use Rattle.macro_expand.specs.Expansion as expanding
@@ -20,6 +19,7 @@ use Rattle.unit_steps.specs.Notes.{Note, Reaches, Happened}
 use Rattle.unit_steps.specs.State.{State, Did, did}
 use Rattle.include_tree.specs.Walk.{ItemText, item_texts, items_in}
 use Rattle.include_tree.specs.Unit.{unit_outcome}
+use Rattle.expansion_laws.specs.Alike.{stands_for_line}
 use Rattle.list_cuts.specs.Cuts.{Cut, IsOrder, arranged, AreOf}
 use Rattle.list_cuts.specs.CutOf.{back}
 use Rattle.unit_laws.specs.Edited.{Edit, IsEditedSource, edited_carried, edited_state}
@@ -101,16 +101,21 @@ pub record Stands (told : List Note) (all : List Token) (files : Table) (from to
 
 -- ---- runs
 
+-- for this word there stands the number of its line, where no line defines it (6.10.8), or the next number of the unit, which
+-- GNU C has
+abbrev pub is_line_word : List ℕ → Bool
+is_line_word text = bytes_eq text (codes "__LINE__") || bytes_eq text (codes "__COUNTER__")
+
 -- What is known of a run of text lines that a unit with these notes, tokens and files reaches: its file and the edited one, the
--- item of both, what it is expanded to, that a macro that stands for the number of a line is `__LINE__`, and where what happens
--- and what is brought stand in the unit.
+-- item of both, what it is expanded to, that a macro that stands for the number of a line or of the unit is one of the first,
+-- and where what happens and what is brought stand in the unit.
 pub record IsReachedRun (edit : Edit) (old : Source) (told : List Note) (all : List Token) (files : Table) (file : SourceFile) (text : TextValue) (k : ℕ) (i j : ItemText) (s : State) (e : expansion.Expanded) : Type 0 where
   pub edited : IsEdited edit old files file text
   pub item : slice_get (items_in file) k ≡ Some i
   pub item2 : slice_get (text_items text) k ≡ Some j
   pub run : i.kind ≡ Run
   pub expands : expanding.expansion s.macros file.path i.toks s.work ≡ Ok e
-  pub lines : (name : List ℕ) (m : Definition) → s.macros name ≡ Some m → m.form ≡ form.Line → (m.name ≡ line_macro.name) × (name ≡ codes "__LINE__")
+  pub lines : (name : List ℕ) (m : Definition) → s.macros name ≡ Some m → stands_for_line m.form ≡ true → (origin_at m.name 0 ≡ None) × (is_line_word name ≡ true)
   pub stands : Stands told all files s.before (s.before + length e.toks) (Reaches file.number k false s.before ∷ map (Happened true s.before) e.notes) (toks_of e.toks) s.table
 
 -- a token, as it is read: its kind and its spelling

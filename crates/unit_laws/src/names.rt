@@ -3,8 +3,8 @@ ghost use Rattle.unit_laws.specs.ToldNames.{ReplacingMacrosAreLinked, ToldNamesA
 ghost use Rattle.unit_laws.specs.Uses.{UsesAreLinked};
 
 /// Names of one spelling of which events of a unit tell hang together by its links: what is the same for both tokens of
-/// each link is the same for them. Only names spelled `__LINE__` or `__FILE__` need not. So does a replaced name with that
-/// of its macro.
+/// each link is the same for them. Only names spelled `__LINE__`, `__FILE__` or `__COUNTER__` need not. So does a replaced
+/// name with that of its macro.
 pub fn told_names_are_linked()
     ensures told { ToldNamesAreLinked }
     ensures replaced { ReplacingMacrosAreLinked }

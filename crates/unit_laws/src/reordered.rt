@@ -14,9 +14,9 @@ pub fn units_go_alike()
 {}
 
 /// Over files in which the items of lists change places, where the marks of the lists of a unit were put in by no macro, no
-/// item is reached in a list, no `__LINE__` is replaced in one, and the runs of the edited files are the old ones in the new
-/// order, but for lines, places and white space before items, the unit brings its tokens in the new order, by their kinds
-/// and spellings, and what is carried on is the same but for the bytes of files.
+/// item is reached in a list, no `__LINE__` or `__COUNTER__` is replaced in one, and the runs of the edited files are the
+/// old ones in the new order, but for lines, places and white space before items, the unit brings its tokens in the new
+/// order, by their kinds and spellings, and what is carried on is the same but for the bytes of files.
 pub fn units_are_reordered()
     ensures reordered { UnitsAreReordered }
 {

@@ -1,6 +1,7 @@
 -- Steps of a unit as the program takes them: what comes to what all comes to.
 use Rattle.std.proofs.Common.{◌≡◌, ℕ, ◌+◌, ◌-◌, ◌≤◌, Bool, false, nat_lt, List, [], length, Result, Ok, Err, sym, ◌∙◌, ap, arith, length-append}
 use Rattle.cs_base.specs.Token.{Token}
+use Rattle.macro_expand.specs.Below.macro_body.declared.notes.Work.{Work}
 use Rattle.macro_expand.specs.Below.macro_body.Hides.{toks_of}
 use Rattle.macro_expand.specs.Below.macro_body.Notes as expansion
 use Rattle.macro_expand.specs.Below.macro_body.Kept.{Kept, kept, kept_with, expanded_kept}
@@ -49,13 +50,13 @@ put-onward_fault {A} k (Err g) next f h = ap (λ (x : Fault). Err x) (err_same {
 
 -- ---- an expansion
 
-pub expanded-done : (run : Bool) (file : SourceFile) (s : State) (k new : UnitTextValue) (r : Result expansion.Expanded expansion.Fault) (out : List Token) (left : ℕ) (notes : Kept)
-    → s.before ≡ length k.toks → expanded_kept (kept [] [] [] []) r ≡ Ok (out, left, notes) → new ≡ expanded_into k run s.before notes
+pub expanded-done : (run : Bool) (file : SourceFile) (s : State) (k new : UnitTextValue) (r : Result expansion.Expanded expansion.Fault) (out : List Token) (left : Work) (notes : Kept)
+    → s.before ≡ length k.toks → expanded_kept (kept [] [] [] [] []) r ≡ Ok (out, left, notes) → new ≡ expanded_into k run s.before notes
     → kept_after k (expanded_as run file s r) ≡ Ok (out, record s { work = left; before = length new.toks }, new)
 expanded-done run file s k new (Ok e) out left notes before is news =
     ap (λ (t : UnitTextValue). Ok (toks_of e.toks, record s { work = e.left }, t)) (expanded_into-noted k run s.before e.notes)
-    ∙ ap (λ (p : List Token × ℕ × Kept). Ok (p.0, record s { work = p.1 }, expanded_into k run s.before p.2))
-    (ok_same (toks_of e.toks, e.left, kept_with (kept [] [] [] []) e.notes) (out, left, notes) is)
+    ∙ ap (λ (p : List Token × Work × Kept). Ok (p.0, record s { work = p.1 }, expanded_into k run s.before p.2))
+    (ok_same (toks_of e.toks, e.left, kept_with (kept [] [] [] [] []) e.notes) (out, left, notes) is)
     ∙ ap (λ (t : UnitTextValue). Ok (out, record s { work = left }, t)) (sym news)
     ∙ ap (λ (n : ℕ). Ok (out, record s { work = left; before = n }, new)) (before ∙ sym (ap (λ (t : UnitTextValue). length t.toks) news))
 expanded-done run file s k new (Err f) out left notes before is news = absurd (cc)

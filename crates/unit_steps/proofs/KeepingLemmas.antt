@@ -61,6 +61,7 @@ links-wrapped run before (expansion.Replaced name m more ∷ notes) = links-wrap
 links-wrapped run before (expansion.Linked x y ∷ notes) = ap (λ (r : List Link). link_of (x, y) ∷ r) (links-wrapped run before notes)
 links-wrapped run before (expansion.Stringized toks s ∷ notes) = links-wrapped run before notes
 links-wrapped run before (expansion.Pasted x y z ∷ notes) = links-wrapped run before notes
+links-wrapped run before (expansion.Counted z ∷ notes) = links-wrapped run before notes
 
 pasted-wrapped : (run : Bool) (before : ℕ) (notes : List expansion.Note) → flat_map pasted_of (wrapped run before notes) ≡ expansion.pasted_in notes
 pasted-wrapped run before [] = refl
@@ -68,6 +69,7 @@ pasted-wrapped run before (expansion.Replaced name m more ∷ notes) = pasted-wr
 pasted-wrapped run before (expansion.Linked x y ∷ notes) = pasted-wrapped run before notes
 pasted-wrapped run before (expansion.Stringized toks s ∷ notes) = pasted-wrapped run before notes
 pasted-wrapped run before (expansion.Pasted x y z ∷ notes) = ap (λ (r : List Token). z ∷ r) (pasted-wrapped run before notes)
+pasted-wrapped run before (expansion.Counted z ∷ notes) = pasted-wrapped run before notes
 
 stringized-wrapped : (run : Bool) (before : ℕ) (notes : List expansion.Note) → flat_map stringized_of (wrapped run before notes) ≡ expansion.stringized_in notes
 stringized-wrapped run before [] = refl
@@ -75,6 +77,7 @@ stringized-wrapped run before (expansion.Replaced name m more ∷ notes) = strin
 stringized-wrapped run before (expansion.Linked x y ∷ notes) = stringized-wrapped run before notes
 stringized-wrapped run before (expansion.Stringized toks s ∷ notes) = ap (λ (r : List Token). toks ++ r) (stringized-wrapped run before notes)
 stringized-wrapped run before (expansion.Pasted x y z ∷ notes) = stringized-wrapped run before notes
+stringized-wrapped run before (expansion.Counted z ∷ notes) = stringized-wrapped run before notes
 
 events-wrapped : (run : Bool) (before : ℕ) (notes : List expansion.Note)
     → flat_map events_of (wrapped run before notes) ≡ map (replaced_event run before) (map replacement_of (expansion.replaced_in notes))
@@ -84,14 +87,19 @@ events-wrapped run before (expansion.Replaced name m more ∷ notes) =
 events-wrapped run before (expansion.Linked x y ∷ notes) = events-wrapped run before notes
 events-wrapped run before (expansion.Stringized toks s ∷ notes) = events-wrapped run before notes
 events-wrapped run before (expansion.Pasted x y z ∷ notes) = events-wrapped run before notes
+events-wrapped run before (expansion.Counted z ∷ notes) = events-wrapped run before notes
 
 header-wrapped : (run : Bool) (before : ℕ) (notes : List expansion.Note) → flat_map header_of (wrapped run before notes) ≡ []
 header-wrapped run before [] = refl
 header-wrapped run before (n ∷ notes) = header-wrapped run before notes
 
-answers-wrapped : (run : Bool) (before : ℕ) (notes : List expansion.Note) → flat_map answers_of (wrapped run before notes) ≡ []
+answers-wrapped : (run : Bool) (before : ℕ) (notes : List expansion.Note) → flat_map answers_of (wrapped run before notes) ≡ expansion.counted_in notes
 answers-wrapped run before [] = refl
-answers-wrapped run before (n ∷ notes) = answers-wrapped run before notes
+answers-wrapped run before (expansion.Replaced name m more ∷ notes) = answers-wrapped run before notes
+answers-wrapped run before (expansion.Linked x y ∷ notes) = answers-wrapped run before notes
+answers-wrapped run before (expansion.Stringized toks s ∷ notes) = answers-wrapped run before notes
+answers-wrapped run before (expansion.Pasted x y z ∷ notes) = answers-wrapped run before notes
+answers-wrapped run before (expansion.Counted z ∷ notes) = ap (λ (r : List Token). z ∷ r) (answers-wrapped run before notes)
 
 reached-wrapped : (run : Bool) (before n : ℕ) (notes : List expansion.Note) → reached_in n (wrapped run before notes) ≡ []
 unfolding reached_in
@@ -103,14 +111,14 @@ behind_none {A} k xs is = ap (λ (r : List A). k ++ r) is ∙ append-nil k
 
 -- what is kept of an expansion by itself, behind what is kept
 pub expanded_into-noted : (k : UnitTextValue) (run : Bool) (before : ℕ) (notes : List expansion.Note)
-    → noted_in k (map (Happened run before) notes) ≡ expanded_into k run before (kept_with (kept [] [] [] []) notes)
+    → noted_in k (map (Happened run before) notes) ≡ expanded_into k run before (kept_with (kept [] [] [] [] []) notes)
 expanded_into-noted k run before notes =
     let links = ap (λ (r : List Link). k.links ++ r) (links-wrapped run before notes) in
     let pasted = ap (λ (r : List Token). k.pasted ++ r) (pasted-wrapped run before notes) in
     let stringized = ap (λ (r : List Token). k.stringized ++ r) (stringized-wrapped run before notes) in
     let events = ap (λ (r : List Event). k.events ++ r) (events-wrapped run before notes) in
     let header = behind_none k.header _ (header-wrapped run before notes) in
-    let answers = behind_none k.answers _ (answers-wrapped run before notes) in
+    let answers = ap (λ (r : List Token). k.answers ++ r) (answers-wrapped run before notes) in
     let reached = behind_none k.reached _ (reached-wrapped run before (length k.events) notes) in
     λ i. text_of k.toks (links i) (pasted i) (stringized i) (header i) (answers i) (reached i) (events i)
 

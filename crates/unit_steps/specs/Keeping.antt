@@ -41,6 +41,7 @@ expanded_into k run before e = record k {
   links = k.links ++ e.links;
   pasted = k.pasted ++ e.pasted;
   stringized = k.stringized ++ e.stringized;
+  answers = k.answers ++ e.counted;
   events = k.events ++ map (replaced_event run before) e.replaced;
 }
 

@@ -18,7 +18,7 @@ abbrev pub state_in : Table → Progress → State
 state_in table p = record {
   table = table;
   macros = table_of p.macros;
-  work = p.work.left;
+  work = p.work;
   names = p.names;
   before = length p.text.toks;
   behind = p.behind;

@@ -94,9 +94,15 @@ abbrev pub header_of : Note → List Token
 header_of (Named toks) = toks
 header_of _ = []
 
--- the numbers that stand for operands of `defined`
+-- the next number of the unit that an expansion brings, which GNU C has
+abbrev pub answers_then : expansion.Note → List Token
+answers_then (expansion.Counted number) = number ∷ []
+answers_then _ = []
+
+-- the numbers that stand for operands of `defined`, for words that ask for a header, and for `__COUNTER__`
 abbrev pub answers_of : Note → List Token
 answers_of (Answered number) = number ∷ []
+answers_of (Happened run before note) = answers_then note
 answers_of _ = []
 
 -- the events of a note

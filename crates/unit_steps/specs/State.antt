@@ -3,6 +3,7 @@
 use Rattle.std.specs.Prelude.{ℕ, Option, List, [], ◌++◌, Result, Ok, Err}
 use Rattle.cs_base.specs.Token.{Token}
 use Rattle.cs_base.specs.Units.{UnitValue}
+use Rattle.macro_expand.specs.Below.macro_body.declared.notes.Work.{Work}
 use Rattle.macro_expand.specs.Below.macro_body.Macro.{Table as Macros}
 use Rattle.source_files.specs.Files.{Source, Table}
 use Rattle.source_files.specs.Limits.{Limits}
@@ -29,7 +30,7 @@ context source reader unit limits earlier =
 pub record State : Type 0 where
   pub table : Table
   pub macros : Macros
-  pub work : ℕ
+  pub work : Work
   pub names : List Token
   pub before : ℕ
   pub behind : Option ℕ

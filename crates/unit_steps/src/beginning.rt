@@ -1,5 +1,5 @@
 // What is known at the beginning of a unit (6.10.8).
-ghost use Rattle.std.specs.Prelude.{◌≡◌, ◌≤◌, [], IfOk, None};
+ghost use Rattle.std.specs.Prelude.{true, false, ◌≡◌, ◌≤◌, [], IfOk, None};
 ghost use Rattle.cs_base.specs.Limits.{most_tokens, most_work};
 ghost use Rattle.macro_expand.specs.Below.macro_body.Live.{table_of};
 ghost use Rattle.macro_expand.specs.Below.macro_body.Defining.{first_definition, first_macros};
@@ -31,8 +31,8 @@ fn first_definition(alloc: Global, form: Form, name: &[u8]) -> Result<Definition
 }
 
 // `__LINE__` and `__FILE__`.
-fn first_macros(alloc: Global) -> Result<Macros, Memory>
-    ensures { IfOk result (λ m. table_of m ≡ first_macros) }
+fn standard_macros(alloc: Global) -> Result<Macros, Memory>
+    ensures { IfOk result (λ m. table_of m ≡ first_macros false) }
 {
     let mut macros = Macros::new(alloc);
     let line = first_definition(alloc, Form::Line, b"__LINE__")?;
@@ -42,19 +42,42 @@ fn first_macros(alloc: Global) -> Result<Macros, Memory>
     Ok(macros)
 }
 
+// The same and `__COUNTER__`, which GNU C has.
+fn gnu_macros(alloc: Global) -> Result<Macros, Memory>
+    ensures { IfOk result (λ m. table_of m ≡ first_macros true) }
+{
+    let mut macros = standard_macros(alloc)?;
+    let counter = first_definition(alloc, Form::Counter, b"__COUNTER__")?;
+    macros.define(counter)?;
+    Ok(macros)
+}
+
+fn first_macros(alloc: Global, gnu: bool) -> Result<Macros, Memory>
+    ensures { IfOk result (λ m. table_of m ≡ first_macros gnu) }
+{
+    if gnu {
+        gnu_macros(alloc)
+    } else {
+        standard_macros(alloc)
+    }
+}
+
 impl Progress {
-    /// Nothing happened yet; the unit may have so many tokens.
-    pub fn begin(alloc: Global, most: u32) -> Result<Progress, Memory>
+    /// Nothing happened yet; the unit is of GNU C or not, and may have so many tokens.
+    pub fn begin(alloc: Global, gnu: bool, most: u32) -> Result<Progress, Memory>
         requires { most ≤ most_tokens }
         ensures able { IfOk result (λ p. IsAble p) }
         ensures most { IfOk result (λ p. p.most ≡ most) }
         ensures text { IfOk result (λ p. p.text ≡ no_text) }
-        ensures state { (table : Table) → IfOk result (λ p. state_in table p ≡ record { table = table; macros = first_macros; work = most_work; names = []; before = 0; behind = None; once = [] }) }
+        ensures state { (table : Table) → IfOk result (λ p. state_in table p ≡ record { table = table; macros = first_macros gnu; work = record { left = most_work; counter = 0 }; names = []; before = 0; behind = None; once = [] }) }
     {
         Ok(Progress {
             alloc,
-            macros: first_macros(alloc)?,
-            work: Work { left: MOST_WORK },
+            macros: first_macros(alloc, gnu)?,
+            work: Work {
+                left: MOST_WORK,
+                counter: 0,
+            },
             names: FirstNames::new(alloc),
             most,
             text: UnitText::new(alloc),

@@ -1,18 +1,13 @@
 -- Marks on characters that are set one after another.
-use Rattle.std.proofs.Common.{◌≡◌, ℕ, ◌+◌, ◌<◌, ◌≤◌, Bool, false, ◌||◌, List, [], Some, None, length, get_or, take, slice_get, refl, sym, ap, subst, ◌∙◌, arith}
+use Rattle.std.proofs.Common.{◌≡◌, ℕ, ◌+◌, ◌<◌, ◌≤◌, Bool, false, ◌||◌, List, [], Some, length, get_or, take, slice_get, sym, ap, subst, ◌∙◌, arith}
 use Rattle.std.specs.List.{list_any}
 use Rattle.std.proofs.Math.Bool.{or_assoc, or-false}
 use Rattle.std.proofs.lemmas.List.{take_all}
 use Rattle.std.proofs.lemmas.List.Folds.{list_any_more}
-use Rattle.std.proofs.lemmas.Option.{slice_get-get_or, slice_get_within, get_or_from_slice_get}
+use Rattle.std.proofs.lemmas.Option.{slice_get_within, get_or_from_slice_get}
 use Rattle.cs_base.specs.declared.positions.Part.{Part}
 use Rattle.cs_base.specs.declared.positions.Pos.{Pos}
-use Rattle.cs_base.specs.Token.{Token, origin_at}
 use Rattle.unseen_names.specs.Characters.{is_marked, Adds, AnyMarked, HoldsMark}
-
--- the origin of a character of a token
-pub origin_is : (t : Token) (k : ℕ) → k < length t.origins → origin_at t k ≡ get_or t.origins k None
-origin_is t k within = rw (slice_get-get_or t.origins k None within) refl
 
 -- ---- parts
 

@@ -1,15 +1,13 @@
 -- What marks on the characters of names tell of a class.
 use Rattle.std.proofs.Common.{◌≡◌, ℕ, zero, suc, ◌-◌, Bool, true, false, List, Option, Some, None, slice_get, refl, sym, ap, ◌∙◌, subst}
-use Rattle.std.specs.Prelude.{MatchBool, nat_eq, not}
+use Rattle.std.specs.Prelude.{MatchBool, not}
 use Rattle.std.specs.List.{list_all, list_any}
 use Rattle.std.specs.Option.{option_and_then}
-use Rattle.std.proofs.lemmas.Bool.{and_parts, and_from, eqb-true, eq-eqb}
 use Rattle.std.proofs.lemmas.Option.{none-some, same_Some}
 use Rattle.cs_base.specs.declared.positions.Part.{Part}
 use Rattle.cs_base.specs.declared.positions.Pos.{Pos}
 use Rattle.cs_base.specs.Token.{Token}
 use Rattle.cs_base.proofs.ListLemmas.{any_at as any_from, passes_at}
-use Rattle.cs_base.proofs.PlaceLemmas.{pos_is}
 use Rattle.eclass_map.specs.Positions.{along, holds}
 use Rattle.eclass_map.proofs.TokenFacts.{along_of, holding, holds_along}
 use Rattle.analysis.specs.Below.c_types.declared.entity.EntityKind.{EntityKind}
@@ -27,18 +25,10 @@ use Rattle.unseen_names.specs.Characters.{is_marked, AnyMarked}
 use Rattle.unseen_names.specs.Groups.{is_in_group, roles_of, HasGroup}
 use Rattle.unseen_names.specs.Reach.{is_wide_kind, is_wide_role, IsWide}
 use Rattle.unseen_names.specs.Unseen.{comes_from, stands_at, IsUnstated}
+use Rattle.unseen_names.proofs.SpanMarks.{stands, stands_there}
 use Rattle.unseen_names.proofs.SwapLemmas.{in_roles}
 
 -- ---- characters of tokens
-
-stands : (p : Pos) (o : Option Pos) → stands_at p o ≡ true → o ≡ Some p
-stands p None is = absurd (cc)
-stands p (Some q) is =
-    let both = and_parts (nat_eq p.file q.file) (nat_eq p.at q.at) is in
-    ap (λ (x : Pos). Some x) (sym (pos_is p q (eqb-true p.file q.file both.0) (eqb-true p.at q.at both.1)))
-
-stands_there : (p : Pos) → stands_at p (Some p) ≡ true
-stands_there p = and_from (nat_eq p.file p.file) (nat_eq p.at p.at) (eq-eqb p.file p.file refl) (eq-eqb p.at p.at refl)
 
 origin_found : (t : Token) (k : ℕ) (p : Pos) (o : Option (Option Pos)) → slice_get t.origins k ≡ o → option_and_then (λ origin. origin) o ≡ Some p
     → slice_get t.origins k ≡ Some (Some p)

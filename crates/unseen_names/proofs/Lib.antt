@@ -1,3 +1,4 @@
+pub mod SpanMarks
 pub mod CharacterLemmas
 pub mod SwapLemmas
 pub mod GroupLemmas

@@ -1,21 +1,31 @@
 -- Marks on the characters of files, by the number of the file and that of the character in it.
-use Rattle.std.specs.Prelude.{ℕ, ◌≡◌, ◌<◌, ◌||◌, nat_eq, Bool, true, false, Some, List, [], length, slice_get, slice_index_or}
+use Rattle.std.specs.Prelude.{ℕ, ◌+◌, ◌≡◌, ◌<◌, ◌≤◌, ◌||◌, ◌&&◌, nat_eq, nat_le, nat_lt, Bool, true, false, Some, List, [], length, slice_get, slice_index_or}
 use Rattle.cs_base.specs.declared.positions.Part.{Part}
 use Rattle.cs_base.specs.declared.positions.Pos.{Pos}
+use Rattle.cs_base.specs.declared.spans.Span.{Span}
 use Rattle.eclass_map.specs.Positions.{along}
 
 -- whether a character is marked
 abbrev pub is_marked : List (List Bool) → Pos → Bool
 is_marked marks p = slice_index_or (slice_index_or marks p.file []) p.at false
 
--- there is room for the mark of a character, and the marks are what they were
-pub record ReachesRow (at : ℕ) (old new : List Bool) : Type 0 where
-  pub room : at < length new
+-- there is room for more characters, and the marks are what they were
+pub record Grows (old new : List Bool) : Type 0 where
+  pub longer : length old < length new
   pub same : (k : ℕ) → slice_index_or new k false ≡ slice_index_or old k false
 
--- a character is marked, beside those that were
-pub record SetsMark (at : ℕ) (old new : List Bool) : Type 0 where
-  pub each : (k : ℕ) → slice_index_or new k false ≡ (slice_index_or old k false || nat_eq k at)
+-- there is room for the marks of the characters before `end`, and the marks are what they were
+pub record ReachesRow (end : ℕ) (old new : List Bool) : Type 0 where
+  pub room : end ≤ length new
+  pub same : (k : ℕ) → slice_index_or new k false ≡ slice_index_or old k false
+
+-- the characters from `from` on before `end` are marked, beside those that were
+pub record SetsRow (from end : ℕ) (old new : List Bool) : Type 0 where
+  pub each : (k : ℕ) → slice_index_or new k false ≡ (slice_index_or old k false || (nat_le from k && nat_lt k end))
+
+-- the position is one of the span's
+abbrev pub covers : Pos → Span → Bool
+covers p s = nat_eq p.file s.start.file && (nat_le s.start.at p.at && nat_lt p.at (s.start.at + s.len))
 
 -- there is room for the marks of a file, and the marks are what they were
 pub record Reaches (file : ℕ) (old new : List (List Bool)) : Type 0 where

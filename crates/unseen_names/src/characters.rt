@@ -1,12 +1,11 @@
 // Marks on the characters of files.
-ghost use Rattle.std.specs.Prelude.{◌≡◌, [], OnOk, MatchBool, false, length, slice_index_or};
+ghost use Rattle.std.specs.Prelude.{◌≡◌, ◌≤◌, ◌+◌, [], OnOk, MatchBool, false, length, slice_index_or};
 ghost use Rattle.std.specs.List.{list_any};
 ghost use Rattle.cs_base.specs.declared.positions.Pos.{Pos as APos};
-ghost use Rattle.cs_base.specs.Token.{origin_at};
-ghost use Rattle.unseen_names.specs.Characters.{is_marked, Adds, AnyMarked, HoldsMark, Reaches, ReachesRow, SetsMark};
-ghost use Rattle.unseen_names.specs.Unseen.{comes_from, stands_at};
+ghost use Rattle.unseen_names.specs.Characters.{covers, is_marked, Adds, AnyMarked, Grows, HoldsMark, Reaches, ReachesRow, SetsRow};
+ghost use Rattle.unseen_names.specs.Unseen.{comes_from};
 
-use cs_base::{Memory, Part, Pos, Tok};
+use cs_base::{Memory, Part, Pos, Span, Tok};
 use std::alloc::Global;
 use std::marker::Model;
 
@@ -33,12 +32,13 @@ impl Marks {
         }
     }
 
-    // Marks a character.
-    fn set(&mut self, at: u32) -> Result<(), Memory>
-        ensures { OnOk result (SetsMark at self.old self.new) }
+    // Marks so many characters, from one on.
+    fn set(&mut self, from: u32, count: u32) -> Result<(), Memory>
+        ensures { OnOk result (SetsRow from (from + count) self.old self.new) }
     {
-        reach_character(&mut self.chars, at)?;
-        self.chars[at as usize] = true;
+        let end = from as usize + count as usize;
+        reach_row(&mut self.chars, end)?;
+        set_row(&mut self.chars, from as usize, end);
         Ok(())
     }
 
@@ -55,14 +55,33 @@ impl Marks {
 
 // ---- characters
 
-// Room for the mark of a character of a file.
-fn reach_character(chars: &mut Vec<bool>, at: u32) -> Result<(), Memory>
-    ensures { OnOk result (ReachesRow at chars.old.items chars.new.items) }
+// Room for some more characters, none of which is marked: as many as are copied at once.
+fn grow(chars: &mut Vec<bool>) -> Result<(), Memory>
+    ensures { OnOk result (Grows chars.old.items chars.new.items) }
 {
-    'room: while chars.len() <= at as usize {
-        chars.push(false)?;
+    chars.extend_from_slice(&[false; 256])?;
+    Ok(())
+}
+
+// Room for the marks of the characters before `end`.
+fn reach_row(chars: &mut Vec<bool>, end: usize) -> Result<(), Memory>
+    ensures { OnOk result (ReachesRow end chars.old.items chars.new.items) }
+{
+    'room: while chars.len() < end {
+        grow(chars)?;
     }
     Ok(())
+}
+
+// Marks characters for which there is room: those from `from` on before `end`.
+fn set_row(chars: &mut [bool], from: usize, end: usize)
+    requires order { from ≤ end }
+    requires room { end ≤ length chars.old }
+    ensures { SetsRow from end chars.old chars.new }
+{
+    for k in from..end {
+        chars[k] = true;
+    }
 }
 
 // Whether a character of a file is marked.
@@ -93,50 +112,55 @@ fn reach(alloc: Global, marks: &mut Vec<Marks>, file: u32) -> Result<(), Memory>
     Ok(())
 }
 
-// Marks a character.
-fn mark(alloc: Global, marks: &mut Vec<Marks>, p: Pos) -> Result<(), Memory>
-    ensures { OnOk result (Adds (λ q. stands_at q (Some p)) marks.old.items marks.new.items) }
+// Marks the characters of a span.
+fn mark_span(alloc: Global, marks: &mut Vec<Marks>, span: Span) -> Result<(), Memory>
+    ensures { OnOk result (Adds (λ q. covers q span) marks.old.items marks.new.items) }
 {
-    reach(alloc, marks, p.file)?;
-    marks[p.file as usize].set(p.at)
+    reach(alloc, marks, span.start.file)?;
+    marks[span.start.file as usize].set(span.start.at, span.len)
 }
 
-// Marks the character that one of a token comes from.
-fn mark_origin(alloc: Global, marks: &mut Vec<Marks>, origin: Option<Pos>) -> Result<(), Memory>
-    ensures { OnOk result (Adds (λ q. stands_at q origin) marks.old.items marks.new.items) }
+// Marks those of spans.
+fn mark_spans(alloc: Global, marks: &mut Vec<Marks>, spans: &[Span]) -> Result<(), Memory>
+    ensures { OnOk result (Adds (λ q. list_any (covers q) spans.now) marks.old.items marks.new.items) }
 {
-    match origin {
-        Some(p) => mark(alloc, marks, p),
-        None => Ok(()),
+    for span in spans {
+        mark_span(alloc, marks, *span)?;
     }
+    Ok(())
 }
 
 // ---- tokens
 
-// How many characters a token has.
-fn length(tok: &Tok) -> u32
-    ensures { result ≡ length tok.now.origins }
+// The spans of a token alone.
+fn take_spans(spans: &mut Vec<Span>, tok: &Tok) -> Result<(), Memory>
+    ensures { OnOk result ((q : APos) → list_any (covers q) spans.new.items ≡ comes_from q tok.now) }
 {
-    tok.text().len() as u32
+    spans.clear();
+    let _text = tok.text();
+    tok.push_spans(0, spans)
 }
 
-/// Marks the characters that a token comes from.
-pub(crate) fn mark_token(alloc: Global, marks: &mut Vec<Marks>, tok: &Tok) -> Result<(), Memory>
+/// Marks the characters that a token comes from, span by span. `spans` is room for these.
+pub(crate) fn mark_token(
+    alloc: Global,
+    marks: &mut Vec<Marks>,
+    spans: &mut Vec<Span>,
+    tok: &Tok,
+) -> Result<(), Memory>
     ensures { OnOk result (Adds (λ q. comes_from q tok.now) marks.old.items marks.new.items) }
 {
-    let count = length(tok);
-    for k in 0..count {
-        mark_origin(alloc, marks, tok.origins(k))?;
-    }
-    Ok(())
+    take_spans(spans, tok)?;
+    mark_spans(alloc, marks, spans)
 }
 
 /// Marks those that tokens come from.
 pub(crate) fn mark_tokens(alloc: Global, marks: &mut Vec<Marks>, toks: &[Tok]) -> Result<(), Memory>
     ensures { OnOk result (Adds (λ q. list_any (comes_from q) toks.now) marks.old.items marks.new.items) }
 {
+    let mut spans = Vec::new(alloc);
     for tok in toks {
-        mark_token(alloc, marks, tok)?;
+        mark_token(alloc, marks, &mut spans, tok)?;
     }
     Ok(())
 }

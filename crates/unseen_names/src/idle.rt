@@ -15,6 +15,7 @@ use crate::processed::unprocessed;
 use analysis::Analysis;
 use cs_base::{Memory, Part};
 use std::alloc::Global;
+use std::mem;
 
 // Whether no name declares or uses the class of a part, by the marks of those that do.
 fn is_unstated(a: &Analysis, marks: &[Marks], place: Part) -> bool
@@ -54,7 +55,9 @@ fn unstated(alloc: Global, a: &Analysis, places: Vec<Part>) -> Result<Vec<Part>,
         return Ok(places);
     }
     let marks = marks_of(alloc, a, Group::Stated)?;
-    unstated_by(alloc, a, &marks, &places)
+    let left = unstated_by(alloc, a, &marks, &places);
+    mem::forget(marks);
+    left
 }
 
 /// Those of these parts whose classes no name declares or uses, and which no unit has. What a unit has is found first, since

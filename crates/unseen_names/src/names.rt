@@ -11,7 +11,7 @@ ghost use Rattle.unseen_names.specs.Unseen.{comes_from};
 
 use crate::characters::{Marks, mark_token};
 use analysis::{Analysis, Bound, EntityKind, Event, EventKind, Linkage, UnitText};
-use cs_base::{Memory, Tok};
+use cs_base::{Memory, Span, Tok};
 use std::alloc::Global;
 
 /// What names do, or are names of.
@@ -102,13 +102,14 @@ fn named(group: Group, event: &Event) -> Option<&Tok>
 fn mark_event(
     alloc: Global,
     marks: &mut Vec<Marks>,
+    spans: &mut Vec<Span>,
     group: Group,
     event: &Event,
 ) -> Result<(), Memory>
     ensures { OnOk result (Adds (λ p. in_event group p event.now) marks.old.items marks.new.items) }
 {
     match named(group, event) {
-        Some(name) => mark_token(alloc, marks, name),
+        Some(name) => mark_token(alloc, marks, spans, name),
         None => Ok(()),
     }
 }
@@ -122,18 +123,25 @@ fn mark_events(
 ) -> Result<(), Memory>
     ensures { OnOk result (Adds (λ p. list_any (in_event group p) events.now) marks.old.items marks.new.items) }
 {
+    let mut spans = Vec::new(alloc);
     for event in events {
-        mark_event(alloc, marks, group, event)?;
+        mark_event(alloc, marks, &mut spans, group, event)?;
     }
     Ok(())
 }
 
 // Marks those of a token, where it is wanted.
-fn mark_wanted(alloc: Global, marks: &mut Vec<Marks>, wanted: bool, tok: &Tok) -> Result<(), Memory>
+fn mark_wanted(
+    alloc: Global,
+    marks: &mut Vec<Marks>,
+    spans: &mut Vec<Span>,
+    wanted: bool,
+    tok: &Tok,
+) -> Result<(), Memory>
     ensures { OnOk result (Adds (λ p. list_any (comes_from p) (wanted_token wanted tok.now)) marks.old.items marks.new.items) }
 {
     if wanted {
-        mark_token(alloc, marks, tok)
+        mark_token(alloc, marks, spans, tok)
     } else {
         Ok(())
     }
@@ -160,9 +168,10 @@ fn mark_bound(
     ensures { OnOk result (Adds (λ p. in_tokens group p bound.now.names 0 toks.now) marks.old.items marks.new.items) }
 {
     let count = count_of(toks)?;
+    let mut spans = Vec::new(alloc);
     for k in 0..count {
         let wanted = token_wanted(group, bound, k);
-        mark_wanted(alloc, marks, wanted, &toks[k as usize])?;
+        mark_wanted(alloc, marks, &mut spans, wanted, &toks[k as usize])?;
     }
     Ok(())
 }

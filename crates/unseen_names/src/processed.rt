@@ -10,6 +10,7 @@ use crate::characters::{Marks, is_marked, mark_tokens};
 use analysis::Analysis;
 use cs_base::{Memory, Part};
 use std::alloc::Global;
+use std::mem;
 
 // Marks on those of all units.
 fn processed(alloc: Global, a: &Analysis) -> Result<Vec<Marks>, Memory>
@@ -54,5 +55,7 @@ pub(crate) fn unprocessed(alloc: Global, a: &Analysis, places: &[Part]) -> Resul
     ensures { IfOk result (λ out. Keeps (IsUnprocessed a.now.value) places.now out.items) }
 {
     let marks = processed(alloc, a)?;
-    unprocessed_by(alloc, a, &marks, places)
+    let left = unprocessed_by(alloc, a, &marks, places);
+    mem::forget(marks);
+    left
 }

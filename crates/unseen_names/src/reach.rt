@@ -10,6 +10,7 @@ use crate::names::{Group, marks_of};
 use analysis::Analysis;
 use cs_base::{Memory, Part, Pos};
 use std::alloc::Global;
+use std::mem;
 
 // ---- names that reach past a function
 
@@ -19,7 +20,9 @@ fn is_wide(alloc: Global, a: &Analysis, part: Part) -> Result<bool, Memory>
     ensures { IfOk result (λ b. MatchBool b (IsWide a.now.value part) (IsWide a.now.value part → ⊥)) }
 {
     let marks = marks_of(alloc, a, Group::Wide)?;
-    Ok(any_marked(&marks, a.members(part)))
+    let wide = any_marked(&marks, a.members(part));
+    mem::forget(marks);
+    Ok(wide)
 }
 
 // ---- between members

@@ -1,7 +1,7 @@
 -- What is told of inclusions, and of the lines that are chosen.
 use Rattle.std.proofs.Common.{◌≡◌, ℕ, zero, suc, ◌<◌, ◌≤◌, Bool, true, false, ◌&&◌, not, List, [], ◌∷◌, Some, length, filter, slice_get, inl, inr, refl, sym, ap, ◌∙◌, subst, arith}
 use Rattle.std.specs.List.Sorted.{IsStrictlySortedBy}
-use Rattle.std.proofs.lemmas.Bool.{cases_Bool, cases_lt}
+use Rattle.std.proofs.lemmas.Bool.{cases_Bool, cases_lt, false≢true}
 use Rattle.std.proofs.lemmas.List.Kept.{IsStrictlySortedBy-filter}
 use Rattle.std.proofs.lemmas.Option.{same_Some, slice_get_within}
 use Rattle.cs_base.specs.declared.positions.Pos.{Pos}
@@ -14,7 +14,7 @@ use Rattle.unused_names.specs.LastUses.{MeansBehind}
 use Rattle.unused_names.specs.Lines.{LinesValue, Meets, AreLines, HaveSame, is_chosen}
 use Rattle.unused_names.specs.Order.{position_cmp}
 use Rattle.unused_names.specs.Spans.{ReachesOut}
-use Rattle.unused_names.specs.Unneeded.{Occurs, IsUnneeded, Includes, IsUnneededLine, AreUnneeded}
+use Rattle.unused_names.specs.Unneeded.{Occurs, counts_at, IsUnneeded, Includes, IsUnneededLine, AreUnneeded}
 
 -- ---- inclusions
 
@@ -25,9 +25,10 @@ module _ (text : UnitTextValue) (names : List Name) (k from to end : ℕ) (is_en
 
   -- an entity that is inside alone, and names that are not asked for
   pub is_unneeded : ((i : ℕ) → from ≤ i → i < to → i < length text.toks → ReachesOut names (length text.toks) from to i → ⊥)
+      → ((i : ℕ) → k < i → i < end → counts_at text.events i ≡ false)
       → ((i : ℕ) → k < i → i < end → MeansBehind text.events i end → ⊥)
       → IsUnneeded text names k
-  is_unneeded none_out none_asked = record {
+  is_unneeded none_out none_counted none_asked = record {
     entities = λ entity i j here there inside.
         let low : from ≤ i = subst (λ (n : ℕ). n ≤ i) (sym begins) inside.0 in
         let high : i < to = subst (λ (n : ℕ). i < n) (sym last_token) inside.1 in
@@ -50,6 +51,7 @@ module _ (text : UnitTextValue) (names : List Name) (k from to end : ℕ) (is_en
     macros = λ i j behind before later means.
         none_asked i behind (subst (λ (n : ℕ). i < n) (sym is_end) before)
         (record { event = j; behind = subst (λ (n : ℕ). n ≤ j) (sym is_end) later; means = means });
+    numbers = λ i behind before. none_counted i behind (subst (λ (n : ℕ). i < n) (sym is_end) before);
   }
 
   pub needed_by_entity : (i : ℕ) → from ≤ i → i < to → i < length text.toks → ReachesOut names (length text.toks) from to i
@@ -59,6 +61,11 @@ module _ (text : UnitTextValue) (names : List Name) (k from to end : ℕ) (is_en
       let there : Occurs text names r.entity r.other = record { within = r.within; bound = r.there } in
       let inside = is.entities r.entity i r.other here there (subst (λ (n : ℕ). n ≤ i) begins low, subst (λ (n : ℕ). i < n) last_token high) in
       r.outside (subst (λ (n : ℕ). n ≤ r.other) (sym begins) inside.0) (subst (λ (n : ℕ). r.other < n) (sym last_token) inside.1)
+
+  pub needed_by_number : (i : ℕ) → k < i → i < end → counts_at text.events i ≡ true → IsUnneeded text names k → ⊥
+  needed_by_number i behind before counts is =
+      let none : counts_at text.events i ≡ false = is.numbers i behind (subst (λ (n : ℕ). i < n) is_end before) in
+      false≢true (sym none ∙ counts)
 
   pub needed_by_name : (i : ℕ) → k < i → i < end → MeansBehind text.events i end → IsUnneeded text names k → ⊥
   needed_by_name i behind before m is =

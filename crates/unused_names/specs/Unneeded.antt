@@ -1,7 +1,8 @@
 -- Include lines that bring nothing which is used (this project's, over ISO/IEC 9899:1999, 6.2.1, 6.10.2 and 6.10.3).
-use Rattle.std.specs.Prelude.{ℕ, ◌≡◌, ◌≤◌, ◌<◌, Bool, true, false, Some, List, [], length, slice_get}
+use Rattle.std.specs.Prelude.{ℕ, ◌≡◌, ◌≤◌, ◌<◌, Bool, true, false, Option, None, Some, List, [], codes, length, slice_get}
 use Rattle.std.specs.List.Sorted.{IsStrictlySortedBy}
 use Rattle.std.specs.Option.{option_map_or}
+use Rattle.std.specs.Str.{bytes_eq}
 use Rattle.cs_base.specs.declared.positions.Pos.{Pos}
 use Rattle.cs_base.specs.Token.{Token}
 use Rattle.analysis.specs.Below.unit_steps.declared.events.Event.{Event}
@@ -59,14 +60,24 @@ pub record Means (events : List Event) (i j : ℕ) : Type 0 where
   pub asks : asks_meaning asking.kind ≡ true
   pub same : subject_of giving ≡ subject_of asking
 
+-- `__COUNTER__` of GNU C is replaced by the next number of the unit: where no line defines it, its macro stands in no file
+abbrev pub brings_number : EventKind → Option Pos → Option Token → Bool
+brings_number kind.Replaced None (Some name) = bytes_eq name.text (codes "__COUNTER__")
+brings_number _ _ _ = false
+
+-- event i of a unit does that: what stands behind has other numbers without it
+abbrev pub counts_at : List Event → ℕ → Bool
+counts_at events i = option_map_or (λ (e : Event). brings_number e.kind e.def e.name) (slice_get events i) false
+
 -- ---- inclusions
 
 -- What the inclusion brings that event k begins is not used outside it: an entity that has an occurrence inside has
--- all of them there, no name is asked for behind it that a line inside gives a meaning or takes it away, and no file is passed
--- over behind it of which a line inside says that it is read once.
+-- all of them there, no name is asked for behind it that a line inside gives a meaning or takes it away, no file is passed
+-- over behind it of which a line inside says that it is read once, and no number of the unit is brought inside.
 pub record IsUnneeded (text : UnitTextValue) (names : List Name) (k : ℕ) : Type 0 where
   pub entities : (entity i j : ℕ) → Occurs text names entity i → Occurs text names entity j → Brings text k i → Brings text k j
   pub macros : (i j : ℕ) → k < i → i < end_of text.events k → end_of text.events k ≤ j → Means text.events i j → ⊥
+  pub numbers : (i : ℕ) → k < i → i < end_of text.events k → counts_at text.events i ≡ false
 
 -- ---- include lines
 

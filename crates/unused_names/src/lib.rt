@@ -12,6 +12,7 @@
 //! `specs/Unused.antt`, then `unneeded_lines.rt` and `unused_classes.rt`.
 #![tactic(auto)]
 
+mod counting;
 mod inclusions;
 mod last_uses;
 mod lines;

@@ -6,6 +6,7 @@ ghost use Rattle.unused_names.specs.Lines.{AreLines, GoOn, MeetsLine, has_positi
 ghost use Rattle.unused_names.specs.Spans.{AreSpans};
 ghost use Rattle.unused_names.specs.Unneeded.{IsUnneeded};
 
+use crate::counting::any_counts;
 use crate::inclusions::{end_of, is_enter, tokens_before};
 use crate::last_uses::{LastUses, any_means_behind};
 use crate::spans::{Span, any_reaches_out, count_of, spans};
@@ -34,6 +35,9 @@ fn is_unneeded(
     let from = tokens_before(text, count, k);
     let to = tokens_before(text, count, end);
     if any_reaches_out(bound, count, spans, from, to) {
+        return false;
+    }
+    if any_counts(events, k, end) {
         return false;
     }
     !any_means_behind(events, uses, k, end)

@@ -18,7 +18,7 @@ fn shown(alloc: Global, a: &Analysis) -> Result<Vec<u8>, AllocError> {
     Ok(out)
 }
 
-// Number 1 is `<defines 1>`, 2 is `b.c`, 3 is `<defines 2>` and 4 is `a.c`; 0 is `<lines>`.
+// Number 1 is `<defines 1>`, with which both units begin, 2 is `b.c` and 3 is `a.c`; 0 is `<lines>`.
 #[test]
 fn parts_stand_in_the_order_of_the_paths_of_their_files(rt: HostRuntime) -> Result<(), Fail> {
     let alloc = rt.alloc();
@@ -28,6 +28,6 @@ fn parts_stand_in_the_order_of_the_paths_of_their_files(rt: HostRuntime) -> Resu
         "a.c:int a = __LINE__;\n@b.c:int b;\n",
     )?;
     let text = shown(alloc, &a)?;
-    assert_eq!(rt; text.as_slice(), b"1 3 0 4 2 ".as_slice());
+    assert_eq!(rt; text.as_slice(), b"1 0 3 2 ".as_slice());
     Ok(())
 }

@@ -3,7 +3,7 @@
 // A row: a workspace file; the files that are held, each as `PATH:TEXT` with `@` between them; and for each unit its tokens,
 // links, pasted tokens, tokens of strings, tokens of include lines, numbers for operands of `defined`, and, behind those
 // of the five fixed lines of its pseudo file, what is reached, as FILE.ITEM, and its events, each behind so many tokens. A
-// place is that of the first character, as FILE.CHARACTER. File 1 is the pseudo file of the first unit.
+// place is that of the first character, as FILE.CHARACTER. File 1 is the pseudo file of the units.
 pub(crate) const ROWS: &str =
     "Names of directives are linked in their unit alone, and macros are not carried on.
 $file a.c
@@ -25,12 +25,12 @@ answers
 reached 2.0 2.1 2.2 2.3
 events d A:0 r A:0 t A:1
 toks A
-links A@4.19 = A@4.7
+links A@3.19 = A@3.7
 pasted
 strings
 header
 answers
-reached 4.0 4.1 4.2 4.3
+reached 3.0 3.1 3.2 3.3
 events u A:0 t A:1
 %
 Pasted tokens, and those that strings are made of.

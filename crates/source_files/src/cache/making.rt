@@ -1,10 +1,10 @@
 // Pseudo files, and tokens that are counted.
-ghost use Rattle.std.specs.Prelude.{◌≡◌, ◌≤◌, ◌+◌, true, false, None, is_some, IfOk, IfErr, IsSome};
+ghost use Rattle.std.specs.Prelude.{◌≡◌, ◌≤◌, ◌+◌, true, false, None, is_some, IfOk, IfErr, IfSome, IsSome, option_copied};
 ghost use Rattle.std.specs.Str.{bytes_eq, is_utf8};
 ghost use Rattle.cs_base.specs.Limits.{most_tokens, most_tokens_of_all};
 ghost use Rattle.lexer.specs.FileText.{file_text};
 ghost use Rattle.source_files.specs.Limits.{the_limits};
-ghost use Rattle.source_files.specs.Files.{Made, lines_path, carried, found_at, numbered};
+ghost use Rattle.source_files.specs.Files.{Made, lines_path, carried, found_at, made_path, numbered};
 ghost use Rattle.source_files.specs.Faults.{first_place};
 ghost use Rattle.source_files.specs.Opening.{opening};
 ghost use Rattle.source_files.specs.Sources.{unit_most, source_at, GivesOpening};
@@ -47,6 +47,14 @@ impl Cache {
         ensures { result ≡ is_some (found_at path.now self.now.table) }
     {
         self.table.find(path).is_some()
+    }
+
+    // The path of the first pseudo file with this text, if there is one.
+    pub fn made(&self, text: &[u8]) -> Option<&[u8]>
+        ensures answer { option_copied result ≡ made_path text.now self.now.table }
+        ensures other { IfSome (made_path text.now self.now.table) (λ path. bytes_eq path lines_path ≡ false) }
+    {
+        self.table.made(text)
     }
 
     // A pseudo file of this path and these bytes gets the next number, which is told; or the fault of its

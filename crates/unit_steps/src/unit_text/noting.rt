@@ -157,10 +157,11 @@ impl UnitText {
     ) -> Result<(), Memory>
         ensures { IfOk result (λ _. self.new ≡ expanded_into self.old run before notes) }
     {
-        let (links, pasted, stringized, replaced) = notes.into_lists();
+        let (links, pasted, stringized, replaced, counted) = notes.into_lists();
         append(&mut self.links, links)?;
         append(&mut self.pasted, pasted)?;
         append(&mut self.stringized, stringized)?;
+        append(&mut self.answers, counted)?;
         push_replaced(&mut self.events, run, before, replaced)
     }
 }

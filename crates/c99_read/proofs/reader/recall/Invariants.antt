@@ -1,4 +1,4 @@
-use Rattle.std.proofs.Common.{◌≡◌, [], ◌∷◌, take, reverse}
+use Rattle.std.proofs.Common.{◌≡◌, [], take, reverse}
 use Rattle.c99_read.specs.FileScope.{file_names, innermost}
 use Rattle.c99_read.specs.State.{spelled_scopes}
 use Rattle.c99_read.proofs.reader.recall.Given as goal

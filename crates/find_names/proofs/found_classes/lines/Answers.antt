@@ -38,7 +38,7 @@ loop-part-preserved c = record {
       ];
 }
 
-pub returns-clause-answer : goal.returns-clause-answer
-returns-clause-answer c = λ q read.
+pub returns : goal.returns
+returns c = λ q read.
     shown_all c.args.a.now.value q c.firsts-firsts.result.now c.loop-part.part-index c.loop-part.text.items c.loop-part-test.false c.firsts-firsts.ensures
     (c.loop-part.invariant.shown q read)

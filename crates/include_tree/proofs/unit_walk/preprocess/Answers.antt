@@ -1,8 +1,9 @@
 use Rattle.std.proofs.Common.{◌≡◌, ℕ, ◌+◌, length, Ok, Err, sym, subst, ◌∙◌, ap}
 use Rattle.std.specs.Prelude.{IfSome}
+use Rattle.cs_base.specs.Units.{is_gnu}
 use Rattle.source_files.specs.Files.{Table, Carried, carried}
 use Rattle.source_files.specs.Tables.{AreFound, IsGrown, StaysHeld}
-use Rattle.include_tree.specs.Unit.{main_file}
+use Rattle.include_tree.specs.Unit.{with_defines, main_file}
 use Rattle.unit_steps.specs.Keeping.{put_after}
 use Rattle.unit_steps.specs.Moments.{state_in}
 use Rattle.source_files.specs.Answers.{fault_of}
@@ -10,7 +11,7 @@ use Rattle.include_tree.specs.Preprocessed.{with_text, preprocessed}
 use Rattle.unit_steps.specs.Texts.{UnitTextValue}
 use Rattle.include_tree.specs.GivenFiles.{unit_context}
 use Rattle.source_files.proofs.TableLemmas.{grown_refl, stays-refl, earlier_found, reads-trans}
-use Rattle.include_tree.proofs.UnitLemmas.{with_defines, unit-done, unit-first_refused, unit-next_refused}
+use Rattle.include_tree.proofs.UnitLemmas.{begun-as, unit-done, unit-first_refused, unit-next_refused}
 use Rattle.include_tree.proofs.unit_walk.preprocess.Goals as goal
 
 pub returns-in-Err-clause-found : goal.returns-in-Err-clause-found
@@ -22,13 +23,15 @@ returns-in-Err-clause-grown g c = grown_refl c.args.cache.now.table
 pub returns-in-Err-walk_defines-clause-answer : goal.returns-in-Err-walk_defines-clause-answer
 returns-in-Err-walk_defines-clause-answer g c = λ none source found.
     unit-first_refused c.args.number c.args.unit.now c.args.cache.now (state_in (with_defines c.args.number c.args.unit.now c.args.cache.now.table) c.in-Ok.p) c.in-Ok.p.text
-    (c.in-Ok.ensures.state (with_defines c.args.number c.args.unit.now c.args.cache.now.table)) c.in-Ok.ensures.text source (fault_of c.in-Err-walk_defines.fault)
+    (begun-as c.args.number c.args.unit.now c.args.cache.now.table c.is_gnu.result _ (c.is_gnu.ensures ∙ ap is_gnu c.standard.ensures.answer)
+    (c.in-Ok.ensures.state (with_defines c.args.number c.args.unit.now c.args.cache.now.table))) c.in-Ok.ensures.text source (fault_of c.in-Err-walk_defines.fault)
     (c.in-Err-walk_defines.ensures.answer none source found)
 
 pub returns-in-Err-walk_main-clause-answer : goal.returns-in-Err-walk_main-clause-answer
 returns-in-Err-walk_main-clause-answer g c = λ none source found.
     unit-next_refused c.args.number c.args.unit.now c.args.cache.now (state_in (with_defines c.args.number c.args.unit.now c.args.cache.now.table) c.in-Ok.p) c.in-Ok.p.text
-    (c.in-Ok.ensures.state (with_defines c.args.number c.args.unit.now c.args.cache.now.table)) c.in-Ok.ensures.text source (fault_of c.in-Err-walk_main.fault)
+    (begun-as c.args.number c.args.unit.now c.args.cache.now.table c.is_gnu.result _ (c.is_gnu.ensures ∙ ap is_gnu c.standard.ensures.answer)
+    (c.in-Ok.ensures.state (with_defines c.args.number c.args.unit.now c.args.cache.now.table))) c.in-Ok.ensures.text source (fault_of c.in-Err-walk_main.fault)
     (state_in c.walk_defines.new.cache.table c.walk_defines.new.p) c.walk_defines.new.p.text
     (c.in-Ok-walk_defines.ensures.answer none source (earlier_found source c.walk_defines.new.cache.table c.walk_main.new.cache.table c.in-Err-walk_main.ensures.reads.grown found))
     (subst (λ (n : ℕ). IfSome (fault_of c.in-Err-walk_main.fault) (λ f. put_after c.walk_defines.new.p.text (main_file (unit_context source c.args.unit.now n) c.args.unit.now.path (state_in c.walk_defines.new.cache.table c.walk_defines.new.p)) ≡ Err f))
@@ -65,7 +68,8 @@ returns-clause-answer g c = λ none source found.
     subst (λ (t : UnitTextValue). preprocessed source c.args.number c.args.unit.now c.args.cache.now ≡ Ok (with_text c.count.new.self t))
     (sym c.settled.ensures)
     (unit-done c.args.number c.args.unit.now c.args.cache.now (state_in (with_defines c.args.number c.args.unit.now c.args.cache.now.table) c.in-Ok.p) c.in-Ok.p.text
-    (c.in-Ok.ensures.state (with_defines c.args.number c.args.unit.now c.args.cache.now.table)) c.in-Ok.ensures.text source
+    (begun-as c.args.number c.args.unit.now c.args.cache.now.table c.is_gnu.result _ (c.is_gnu.ensures ∙ ap is_gnu c.standard.ensures.answer)
+    (c.in-Ok.ensures.state (with_defines c.args.number c.args.unit.now c.args.cache.now.table))) c.in-Ok.ensures.text source
     (state_in c.walk_defines.new.cache.table c.walk_defines.new.p) (state_in c.walk_main.new.cache.table c.walk_main.new.p) c.walk_defines.new.p.text c.walk_main.new.p.text c.count.new.self
     (c.in-Ok-walk_defines.ensures.answer none source (earlier_found source c.walk_defines.new.cache.table c.walk_main.new.cache.table c.in-Ok-walk_main.ensures.reads.grown walked))
     (subst (λ (n : ℕ). put_after c.walk_defines.new.p.text (main_file (unit_context source c.args.unit.now n) c.args.unit.now.path (state_in c.walk_defines.new.cache.table c.walk_defines.new.p)) ≡ Ok (state_in c.walk_main.new.cache.table c.walk_main.new.p, c.walk_main.new.p.text))

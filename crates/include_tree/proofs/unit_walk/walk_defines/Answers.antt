@@ -1,9 +1,10 @@
 use Rattle.std.proofs.Common.{refl}
+use Rattle.include_tree.specs.Unit.{with_defines}
 use Rattle.include_tree.specs.Walk.{file_items}
 use Rattle.unit_steps.specs.Moments.{state_in}
 use Rattle.include_tree.specs.GivenFiles.{unit_context}
 use Rattle.source_files.proofs.TableLemmas.{reads-trans, reads-widened}
-use Rattle.include_tree.proofs.UnitLemmas.{outer-walked, outer-refused, with_defines, defines_opening}
+use Rattle.include_tree.proofs.UnitLemmas.{outer-walked, outer-refused, defines_opening}
 use Rattle.include_tree.proofs.unit_walk.walk_defines.Goals as goal
 
 pub returns-in-Ok-clause-answer : goal.returns-in-Ok-clause-answer

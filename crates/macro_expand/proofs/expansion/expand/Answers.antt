@@ -10,7 +10,7 @@ whole_run-requires-clause-sound c = run_sound c.args.run.now (unhidden c.args.ru
 
 pub returns-clause-answer : goal.returns-clause-answer
 returns-clause-answer c =
-    run-goes _ c.whole_run.result (table_of c.args.macros.now) c.args.path.now c.args.run.now c.new-rest.result c.args.work.now.left c.args.notes.now c.new-rest.ensures c.whole_run.ensures.answer
+    run-goes _ c.whole_run.result (table_of c.args.macros.now) c.args.path.now c.args.run.now c.new-rest.result c.args.work.now c.args.notes.now c.new-rest.ensures c.whole_run.ensures.answer
 
 pub returns-clause-few : goal.returns-clause-few
 returns-clause-few c = run-few c.whole_run.result _ c.args.run.now c.new-rest.result c.args.work.now.left c.whole_run.new.work.left c.new-rest.ensures c.whole_run.ensures.few

@@ -1,7 +1,6 @@
-use Rattle.std.proofs.Common.{refl}
-use Rattle.query_words.specs.Queries.{value}
+use Rattle.query_words.proofs.AtomLemmas.{attribute_compiled}
 use Rattle.query_words.proofs.atoms.attribute_read.Goals as goal
 
-pub returns-in-Some : goal.returns-in-Some
-unfolding value
-returns-in-Some c = rw (c.in-Some.is, c.has.ensures) refl
+pub returns-in_ok-push_step-in-Some-clause-answer : goal.returns-in_ok-push_step-in-Some-clause-answer
+returns-in_ok-push_step-in-Some-clause-answer c =
+    rw c.in-Some.is (attribute_compiled c.args.at c.args.word.now _ c.args.steps.now.items _ c.in_ok-push_step-in-Some.ensures)

@@ -1,5 +1,5 @@
 use Rattle.std.proofs.Common.{◌+◌, ◌*◌, ◌≤◌, length}
-use Rattle.query_words.specs.Queries.{value, Both, Either}
+use Rattle.query_words.specs.Queries.{Both, Either}
 use Rattle.query_words.specs.Reading.{both, either, enclosed, negation, ampersand, bar}
 use Rattle.query_words.proofs.WalkLemmas.{GoesOn}
 use Rattle.query_words.proofs.walk.+walk.Given as goal
@@ -21,13 +21,13 @@ decreases-enclosed l = 8 * l.room + 1
 abbrev pub invariant-either-loop-sign : goal.invariant-either-loop-sign
 invariant-either-loop-sign l =
     record {
-      rest : GoesOn (value l.facts l.spelling) Either bar (both (enclosed l.text l.room) l.text) l.text l._sign l.left (either (enclosed l.text l.room) l.text l.at);
-      within : l.left.next ≤ length l.text;
+      rest : GoesOn Either bar (both (enclosed l.text l.room) l.text) l.text l._sign l.fn.steps.items l.steps.items l.next (either (enclosed l.text l.room) l.text l.at);
+      within : l.next ≤ length l.text;
     }
 
 abbrev pub invariant-both-loop-sign : goal.invariant-both-loop-sign
 invariant-both-loop-sign l =
     record {
-      rest : GoesOn (value l.facts l.spelling) Both ampersand (negation (enclosed l.text l.room) l.text) l.text l._sign l.left (both (enclosed l.text l.room) l.text l.at);
-      within : l.left.next ≤ length l.text;
+      rest : GoesOn Both ampersand (negation (enclosed l.text l.room) l.text) l.text l._sign l.fn.steps.items l.steps.items l.next (both (enclosed l.text l.room) l.text l.at);
+      within : l.next ≤ length l.text;
     }

@@ -10,19 +10,21 @@ use Rattle.offences.specs.First.{FirstThen}
 use Rattle.rename_rules.specs.GnuTexts.{told_in}
 use Rattle.rename_rules.specs.GnuUnits.{IsAgainstUnit}
 use Rattle.rename_rules.proofs.FailingLemmas.{if_ok}
-use Rattle.rename_rules.proofs.GnuLemmas.{idle_is, told, told_gnu, unit_against, unit_quiet}
+use Rattle.rename_rules.proofs.GnuLemmas.{told, told_gnu, unit_against, unit_quiet}
 use Rattle.rename_rules.proofs.words_and_texts.in_unit.Goals as goal
 
-pub returns-then-is_idle : goal.returns-then-is_idle
-returns-then-is_idle c =
+pub returns-then-quiet : goal.returns-then-quiet
+returns-then-quiet c =
     let class = c.args.renaming.now.class in
     let a = c.args.a.now.value in
     let toks = c.toks-toks.result.now in
-    let quiet = idle_is class.members c.args.olds.now toks (rw c.class.ensures at (sym c.if-is_idle.ensures)) in
-    unit_quiet a class.members c.args.renaming.now.name c.args.first c.args.olds.now toks c.args.unit
-    (λ (u : UnitAnalysis) is.
-    c.toks-toks.ensures ∙ ap (λ (t : UnitTextValue). t.toks) (told (λ (v : UnitAnalysis). v.text) (slice_get a.units (c.args.unit - 1)) u c.text.result.now is c.text.ensures)) quiet.0
-    quiet.1
+    let unit = slice_get a.units (c.args.unit - 1) in
+    unit_quiet a class.members c.args.renaming.now.name c.args.first c.args.olds.now toks c.bound-bound.result.now.names c.args.unit
+    (λ (u : UnitAnalysis) is. (
+      c.toks-toks.ensures ∙ ap (λ (t : UnitTextValue). t.toks) (told (λ (v : UnitAnalysis). v.text) unit u c.text.result.now is c.text.ensures),
+      ap (λ (b : Bound). b.names) (told (λ (v : UnitAnalysis). v.bound) unit u c.bound-bound.result.now is c.bound-bound.ensures),
+    ))
+    (c.in_ok-quiet.ensures c.if-quiet.true)
 
 pub returns : goal.returns
 returns c =
@@ -31,7 +33,7 @@ returns c =
     let a = c.args.a.now.value in
     let olds = c.args.olds.now in
     let toks = c.toks-toks.result.now in
-    let names = c.bound.result.now.names in
+    let names = c.bound-bound.result.now.names in
     let listed = c.in_ok-lists.lists in
     let unit = slice_get a.units (c.args.unit - 1) in
     if_ok c.in_lists.result (FirstThen a.table (told_in members name olds names toks listed) c.args.first) (IsAgainstUnit a members name olds c.args.unit c.args.first)
@@ -40,7 +42,7 @@ returns c =
     (λ (u : UnitAnalysis) is.
     let text = c.toks-toks.ensures ∙ ap (λ (t : UnitTextValue). t.toks) (told (λ (v : UnitAnalysis). v.text) unit u c.text.result.now is c.text.ensures) in
     let tree = told (λ (v : UnitAnalysis). v.tree) unit u c.in_ok-tree.tree is c.in_ok-tree.ensures in
-    let bound = told (λ (v : UnitAnalysis). v.bound) unit u c.bound.result.now is c.bound.ensures in (
+    let bound = told (λ (v : UnitAnalysis). v.bound) unit u c.bound-bound.result.now is c.bound-bound.ensures in (
       told_gnu unit u c.gnu_begin.result is c.gnu_begin.ensures c.if-is_none.ensures,
       text,
       ap (λ (b : Bound). b.names) bound,

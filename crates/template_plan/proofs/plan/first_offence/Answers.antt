@@ -1,8 +1,7 @@
 use Rattle.std.proofs.Common.{None, ◌++◌}
-use Rattle.cs_base.specs.declared.causes.Cause.TheVariants as cause
-use Rattle.analysis.specs.GnuUnits.{gnu_places}
-use Rattle.offences.specs.First.{standing, FirstThen, IsFirst}
+use Rattle.offences.specs.First.{FirstThen, IsFirst}
 use Rattle.offences.proofs.FirstLemmas.{then_both}
+use Rattle.template_rules.specs.GnuOffences.{gnu_offences}
 use Rattle.template_rules.specs.Insides.{all_insides, all_macro_names}
 use Rattle.template_rules.specs.Lists.{count_of}
 use Rattle.template_rules.specs.Marks.{all_marks}
@@ -21,11 +20,11 @@ returns c =
     let r = all_macro_names ms a in
     let i = all_insides ms a in
     let l = all_lists ms a in
-    let g = standing cause.AssemblerText (gnu_places a) in
+    let g = gnu_offences ms a in
     rw (← c.requires)
-    (first_of t (n ++ (m ++ (r ++ (i ++ (l ++ g))))) c.gnu_units.result
-    (then_both t n (m ++ (r ++ (i ++ (l ++ g)))) None c.at_names-named.result c.gnu_units.result c.at_names-named.ensures.answer
-    (then_both t m (r ++ (i ++ (l ++ g))) c.at_names-named.result c.at_marks-marked.result c.gnu_units.result c.at_marks-marked.ensures.answer
-    (then_both t r (i ++ (l ++ g)) c.at_marks-marked.result c.at_macro_names-replaced.result c.gnu_units.result c.at_macro_names-replaced.ensures.answer
-    (then_both t i (l ++ g) c.at_macro_names-replaced.result c.at_insides-inside.result c.gnu_units.result c.at_insides-inside.ensures.answer
-    (then_both t l g c.at_insides-inside.result _ c.gnu_units.result c.in_ok-listed.ensures.answer (rw c.analysis.ensures at c.gnu_units.ensures)))))))
+    (first_of t (n ++ (m ++ (r ++ (i ++ (l ++ g))))) _
+    (then_both t n (m ++ (r ++ (i ++ (l ++ g)))) None c.at_names-named.result _ c.at_names-named.ensures.answer
+    (then_both t m (r ++ (i ++ (l ++ g))) c.at_names-named.result c.at_marks-marked.result _ c.at_marks-marked.ensures.answer
+    (then_both t r (i ++ (l ++ g)) c.at_marks-marked.result c.at_macro_names-replaced.result _ c.at_macro_names-replaced.ensures.answer
+    (then_both t i (l ++ g) c.at_macro_names-replaced.result c.at_insides-inside.result _ c.at_insides-inside.ensures.answer
+    (then_both t l g c.at_insides-inside.result _ _ c.in_ok-listed.ensures.answer c.in_ok-last.ensures.answer))))))

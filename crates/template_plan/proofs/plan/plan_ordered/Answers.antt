@@ -7,12 +7,12 @@ use Rattle.offences.proofs.AnswerLemmas.{gives_also}
 use Rattle.template_plan.proofs.PlanLemmas.{if_some, no_function, no_order, ordered, order_told}
 use Rattle.template_plan.proofs.plan.plan_ordered.Goals as goal
 
-pub returns-then-not-has_functions : goal.returns-then-not-has_functions
-returns-then-not-has_functions c =
+pub returns-then-not-has_functions-clause-answer : goal.returns-then-not-has_functions-clause-answer
+returns-then-not-has_functions-clause-answer c =
     no_function c.args.functions.now.analysis.value c.args.functions.now.members c.args.order.now (sym c.if-not-has_functions.ensures.answer)
 
-pub returns-then-not-branch : goal.returns-then-not-branch
-returns-then-not-branch c =
+pub returns-then-not-branch-clause-answer : goal.returns-then-not-branch-clause-answer
+returns-then-not-branch-clause-answer c =
     let a = c.args.functions.now.analysis.value in
     let ms = c.args.functions.now.members in
     let bad : is_order (count_of a ms) c.args.order.now ≡ false =

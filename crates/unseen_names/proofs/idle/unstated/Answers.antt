@@ -14,8 +14,8 @@ returns-then-is_empty c =
     let none : items ≡ [] = empty_list items zero in
     subst (λ (ps : List Part). Keeps P ps items) (sym none) (keeps_none P items none)
 
-pub unstated_by-requires-clause-places : goal.unstated_by-requires-clause-places
-unstated_by-requires-clause-places c = rw c.deref-2.ensures.value c.requires
+pub unstated_by-left-requires-clause-places : goal.unstated_by-left-requires-clause-places
+unstated_by-left-requires-clause-places c = rw c.deref-2.ensures.value c.requires
 
-pub unstated_by-requires-clause-marks : goal.unstated_by-requires-clause-marks
-unstated_by-requires-clause-marks c = rw c.deref.ensures.value c.in_ok-marks.ensures
+pub unstated_by-left-requires-clause-marks : goal.unstated_by-left-requires-clause-marks
+unstated_by-left-requires-clause-marks c = rw c.deref.ensures.value c.in_ok-marks.ensures

@@ -10,4 +10,4 @@ pub returns : goal.returns
 returns c =
     let a = c.args.a.now.value in
     let of : (p : Pos) → is_marked c.deref.result.now p ≡ is_in_group Wide a p = rw c.deref.ensures.value c.in_ok-marks.ensures in
-    told_wide a c.args.part c.members.result.now c.deref.result.now c.any_marked.result c.members.ensures of c.any_marked.ensures
+    told_wide a c.args.part c.members.result.now c.deref.result.now c.any_marked-wide.result c.members.ensures of c.any_marked-wide.ensures

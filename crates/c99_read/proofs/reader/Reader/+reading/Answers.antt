@@ -1,4 +1,4 @@
-use Rattle.std.proofs.Common.{ℕ, ◌-◌, Result, Ok, Err, sym, ap, subst, ◌∙◌, arith}
+use Rattle.std.proofs.Common.{ℕ, ◌-◌, Result, Ok, sym, ap, subst, ◌∙◌, arith}
 use Rattle.c99_tree.specs.Tree.{Node}
 use Rattle.c99_tree.specs.declared.production.Production.{Production}
 use Rattle.c99_tree.specs.declared.production.Production.TheVariants.{Cast}
@@ -17,7 +17,7 @@ use Rattle.c99_read.proofs.RowLemmas.{row-ready}
 use Rattle.c99_read.proofs.TurnLemmas.{many-turn, many-falls}
 use Rattle.c99_read.proofs.LedLemmas.{node-chosen, node-none, node-pushed, node-stopped, node-passed, read-passed, opened-ends, opened-stopped, led-left, led-stopped, led-ends, led-stopped-behind, alone-left, alone-stopped}
 use Rattle.c99_read.proofs.OperatorLemmas.{Under, binary-none, binary-ready, binary-read, cast-below, cast-under, left-out, over-left, under-end, under-next, under-stops}
-use Rattle.c99_read.specs.Operators.{is_binary, operand_of, over, rest_of, rungs}
+use Rattle.c99_read.specs.Operators.{is_binary, operand_of, rungs}
 use Rattle.c99_read.proofs.reader.Reader.+reading.Goals as goal
 
 -- ---- a production

@@ -1,9 +1,8 @@
-use Rattle.std.proofs.Common.{◌∙◌, sym, ap, subst, Ok, Err}
-use Rattle.c99_tree.specs.Tree.{Forest}
+use Rattle.std.proofs.Common.{◌∙◌, sym, subst, Err}
 use Rattle.c99_read.specs.Answer.{Reads}
 use Rattle.c99_read.specs.Fronts.{behind_children}
 use Rattle.c99_read.specs.Reading.{Step}
-use Rattle.c99_read.proofs.FrontLemmas.{left, left-behind, left-ends, left-stops, node-falls, node-pushed-behind, node-same}
+use Rattle.c99_read.proofs.FrontLemmas.{left-behind, left-ends, left-stops, node-falls, node-pushed-behind, node-same}
 use Rattle.c99_read.proofs.LedLemmas.{read-passed}
 use Rattle.c99_read.proofs.reader.Reader.externals.Goals as goal
 

@@ -1,4 +1,3 @@
-use Rattle.std.proofs.Common.{refl}
 use Rattle.c99_grammar.specs.Standard.{grammar}
 use Rattle.c99_read.proofs.FrontLemmas.{external-falls, one_more}
 use Rattle.c99_read.proofs.reader.Reader.externals_to.Goals as goal

@@ -43,7 +43,7 @@ decreases-alone l = 16 * (201 - l.self.now.depth) + 1
 -- What is left behind what was put out comes to what all comes to.
 abbrev pub invariant-whole_list-toks : goal.invariant-whole_list-toks
 invariant-whole_list-toks l = record {
-  same : finished l.notes l.out.items (whole_in l.self l.before l.rest l.work.left) ≡ finished l.initial.notes [] (whole_in l.self l.initial.before l.initial.rest l.initial.work.left);
+  same : finished l.notes l.out.items (whole_in l.self l.before l.rest l.work) ≡ finished l.initial.notes [] (whole_in l.self l.initial.before l.initial.rest l.initial.work);
   fits : l.before + l.work.left + length l.rest < 2 ^ 32;
   falls : l.work.left ≤ l.initial.work.left;
   few : length l.out.items + l.work.left + length l.rest ≤ l.initial.work.left + length l.initial.rest;
@@ -57,8 +57,8 @@ decreases-whole_list-toks l = l.work.left + length l.rest
 -- The arguments that are left, behind those that were expanded, come to what all come to.
 abbrev pub invariant-full_arguments-loop-number : goal.invariant-full_arguments-loop-number
 invariant-full_arguments-loop-number l = record {
-  same : all_full l.notes l.full.items (full_from (whole (setting_of l.self)) l.self.depth l.before l.name l.chains l.number (drop l.number l.raw) l.work.left)
-      ≡ all_full l.initial.notes [] (full_from (whole (setting_of l.self)) l.self.depth l.before l.name l.chains 0 l.raw l.initial.work.left);
+  same : all_full l.notes l.full.items (full_from (whole (setting_of l.self)) l.self.depth l.before l.name l.chains l.number (drop l.number l.raw) l.work)
+      ≡ all_full l.initial.notes [] (full_from (whole (setting_of l.self)) l.self.depth l.before l.name l.chains 0 l.raw l.initial.work);
   falls : l.work.left ≤ l.initial.work.left;
   sound : IsTrue (list_all all_sound l.full.items);
 }

@@ -24,9 +24,9 @@ toks-preserved c =
     c.toks.out.items c.put_out_plain.new.out.items c.in_ok-put_out_plain.ensures taken shorter kept.few in
     record {
       same =
-          more.answer c.next_token.new.notes c.next_token.new.work.left
+          more.answer c.next_token.new.notes c.next_token.new.work
           ∙ plain-turn (setting_of c.args.self.now) c.args.self.now.depth c.toks.before c.behind-before.result c.in-Some.first c.in_ok-stayed.stayed c.toks.rest c.take.new.self c.next_token.new.rest
-          c.toks.out.items c.put_out_plain.new.out.items c.toks.work.left c.next_token.new.work.left c.toks.notes c.next_token.new.notes _
+          c.toks.out.items c.put_out_plain.new.out.items c.toks.work c.next_token.new.work c.toks.notes c.next_token.new.notes _
           taken c.in_ok-stayed.ensures.answer c.behind-before.ensures c.in_ok-put_out_plain.ensures kept.same;
       fits = omega (arith, fits, counted);
       falls = omega (arith, less);
@@ -50,14 +50,14 @@ returns-in_err-stayed-clause-answer c =
     let taken = taken_is c.in_ok-first.field-0 c.in-Some.first c.toks.rest c.take.new.self c.in-Some.is c.in_ok-first.ensures in
     rw (p.1, p.2)
     (refused_more c.in_err-stayed.field-0.0
-    (finished c.toks.notes [] (whole set depth c.toks.before (c.in-Some.first ∷ c.take.new.self) c.toks.work.left))
-    (expanded_kept c.args.notes.now (whole set depth 0 c.args.rest c.args.work.now.left))
-    (λ f h. sym (plain-expanded c.args.notes.now (whole set depth 0 c.args.rest c.args.work.now.left))
-    ∙ plain-fault set depth c.toks.before c.in-Some.first c.toks.rest c.take.new.self c.toks.out.items c.toks.work.left c.toks.notes _ taken c.toks.invariant.same f h)
+    (finished c.toks.notes [] (whole set depth c.toks.before (c.in-Some.first ∷ c.take.new.self) c.toks.work))
+    (expanded_kept c.args.notes.now (whole set depth 0 c.args.rest c.args.work.now))
+    (λ f h. sym (plain-expanded c.args.notes.now (whole set depth 0 c.args.rest c.args.work.now))
+    ∙ plain-fault set depth c.toks.before c.in-Some.first c.toks.rest c.take.new.self c.toks.out.items c.toks.work c.toks.notes _ taken c.toks.invariant.same f h)
     c.in_err-stayed.ensures.answer)
 
 pub returns-clause-answer : goal.returns-clause-answer
 returns-clause-answer c =
-    sym (plain-expanded c.args.notes.now (whole (setting_of c.args.self.now) c.args.self.now.depth 0 c.args.rest c.args.work.now.left))
-    ∙ plain-end (setting_of c.args.self.now) c.args.self.now.depth c.toks.before c.in_ok-first.field-0 c.toks.rest c.take.new.self c.toks.out.items c.toks.work.left c.toks.notes _
+    sym (plain-expanded c.args.notes.now (whole (setting_of c.args.self.now) c.args.self.now.depth 0 c.args.rest c.args.work.now))
+    ∙ plain-end (setting_of c.args.self.now) c.args.self.now.depth c.toks.before c.in_ok-first.field-0 c.toks.rest c.take.new.self c.toks.out.items c.toks.work c.toks.notes _
     c.in_default.is c.in_ok-first.ensures c.toks.invariant.same

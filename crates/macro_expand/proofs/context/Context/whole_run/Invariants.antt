@@ -7,7 +7,7 @@ use Rattle.macro_expand.proofs.context.Context.whole_run.Given as goal
 -- What is left behind what was put out comes to what all comes to.
 abbrev pub invariant-toks : goal.invariant-toks
 invariant-toks l = record {
-  same : plain l.out.items (finished l.notes [] (whole_in l.self l.before l.rest l.work.left)) ≡ plain [] (finished l.initial.notes [] (whole_in l.self 0 l.fn.rest l.initial.work.left));
+  same : plain l.out.items (finished l.notes [] (whole_in l.self l.before l.rest l.work)) ≡ plain [] (finished l.initial.notes [] (whole_in l.self 0 l.fn.rest l.initial.work));
   fits : l.before + l.work.left + length l.rest < 2 ^ 32;
   falls : l.work.left ≤ l.initial.work.left;
   few : length l.out.items + l.work.left + length l.rest ≤ l.initial.work.left + length l.fn.rest;

@@ -8,5 +8,5 @@ returns-clause-able c = record {
   few = omega (arith, ap (λ t. length t.toks) c.new-2.ensures);
   low = c.requires;
   little = omega arith;
-  traced = traced-first (table_of c.in_ok-first_macros.field-0) c.in_ok-first_macros.ensures;
+  traced = traced-first c.args.gnu (table_of c.in_ok-first_macros.field-0) c.in_ok-first_macros.ensures;
 }

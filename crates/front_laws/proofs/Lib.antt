@@ -1,6 +1,0 @@
-mod CarriedFacts
-mod CarriedNames
-mod CarriedMembers
-mod CarriedNodes
-mod CarriedWalk
-mod GnuCarried

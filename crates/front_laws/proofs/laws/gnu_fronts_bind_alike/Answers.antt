@@ -1,5 +1,0 @@
-use Rattle.front_laws.proofs.GnuCarried.{gnu_fronts_bind_alike as law}
-use Rattle.front_laws.proofs.laws.gnu_fronts_bind_alike.Goals as goal
-
-pub returns : goal.returns
-returns c = law

@@ -1,3 +1,0 @@
--- What the public contracts rest on.
-pub mod Carried
-pub mod Laws

@@ -1,0 +1,3 @@
+#include "h.h"
+#include "i.h"
+int x = __COUNTER__;

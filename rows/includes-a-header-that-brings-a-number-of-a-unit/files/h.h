@@ -1,0 +1,1 @@
+static int k = __COUNTER__;

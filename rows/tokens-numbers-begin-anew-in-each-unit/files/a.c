@@ -1,0 +1,2 @@
+#include "h.h"
+int a = __COUNTER__;

@@ -1,0 +1,3 @@
+int b = __COUNTER__;
+#include "h.h"
+#include "h.h"

@@ -1,0 +1,1 @@
+int h = __COUNTER__;

@@ -1,0 +1,3 @@
+standard gnu99
+file a.c
+file b.c
