@@ -9,3 +9,4 @@ pub mod StepLemmas
 pub mod RunLemmas
 pub mod ReplyLemmas
 pub mod EndLemmas
+mod StandingLemmas

@@ -1,5 +1,5 @@
 -- One line of a batch: what it leaves, over all files that have its analysis.
-use Rattle.std.proofs.Common.{◌≡◌, ◌++◌, Bool, true, false, ◌||◌, List, Some, Ok, Err, refl, sym, subst, ◌∙◌}
+use Rattle.std.proofs.Common.{◌≡◌, ◌++◌, Bool, true, false, ◌||◌, List, Some, Ok, Err, refl, ap, sym, subst, ◌∙◌}
 use Rattle.cs_base.specs.declared.positions.Part.{Part}
 use Rattle.cs_base.specs.Edit.{Edit, with_edits, IsKept}
 use Rattle.cs_base.specs.Outside.{FileMap}
@@ -17,9 +17,11 @@ use Rattle.kept_analysis.specs.Following.{IsRenamedIn}
 use Rattle.renamed.specs.Rename.{RenamesOver}
 use Rattle.offences.specs.declared.refusals.Refusal.{Refusal}
 use Rattle.batch_run.specs.declared.stepping.Batching.{Batching}
-use Rattle.batch_run.specs.Batch.{plan_text}
+use Rattle.batch_run.specs.Batch.{Plan, plan_text}
 use Rattle.batch_run.specs.Keeping.{KeepsLine}
+use Rattle.batch_run.specs.Standing.{StandingValue}
 use Rattle.batch_run.specs.Stepping.{IsOver, IsAnswered, Steps}
+use Rattle.rename_rules.specs.Renaming.{IsRenaming}
 use Rattle.batch_run.proofs.KeepingLemmas.{line_is_kept, analysis_goes_on}
 
 or_true : (b : Bool) → true ≡ (b || true)
@@ -84,3 +86,21 @@ refused_steps ws q refusal old s answered text_is refused_is edits_are stays = r
     holds = λ first earlier. subst (λ (es : List Edit). AreMade es first before) (sym edits_are) earlier;
   };
 }
+
+-- a line where the analysis was made before it was asked
+pub settled_steps : (ws : WorkspaceValue) (q : LineValue) (plan : Plan) (old s : Batching) (v : StandingValue) → v.value ≡ old.analysis.value
+    → Steps ws q plan (record old { analysis = v }) s → Steps ws q plan old s
+settled_steps ws q plan old s v same r =
+    let back : Ok old.analysis.value ≡ Ok v.value = ap (λ (a : AnalysisValue). Ok a) (sym same) in
+    record {
+      text_is = r.text_is;
+      refused_is = r.refused_is;
+      edits_are = r.edits_are;
+      line = λ files over. r.line files (over ∙ back);
+      keeps = λ files over. r.keeps files (over ∙ back);
+      goes_on = λ files over. r.goes_on files (over ∙ back);
+      answered = subst (λ (a : AnalysisValue). IsRenaming a q.path q.line q.column q.name q.strings plan) same r.answered;
+      source = λ before analysed.
+          let l = r.source before (analysed ∙ back) in
+          record { now = l.now; leaves = l.leaves; keeps = l.keeps; analysed = l.analysed; holds = l.holds };
+    }

@@ -6,5 +6,6 @@ pub mod Batch
 pub mod Keeping
 pub mod Running
 -- What inner functions promise each other.
+pub mod Standing
 pub mod Taking
 pub mod Stepping

@@ -11,6 +11,7 @@ ghost use Rattle.batch_run.specs.Running.{IsRun, Runs, RunsAsRead, RunsOver};
 ghost use Rattle.batch_run.specs.Stepping.{IsReady, RunTo};
 
 use crate::batch_line::BatchLine;
+use crate::standing::Standing;
 use crate::stepping::{Batching, run_line};
 use analysis::{AnalyseFault, Analysis, analyse};
 use cs_base::{Edits, Files, Memory};
@@ -78,7 +79,7 @@ fn run_lines(
     // Each path of the analysis has one number.
     let _files = analysis.files();
     let state = Batching {
-        analysis,
+        analysis: Standing::at(analysis),
         edits: TextEdits::new(alloc),
         text: Vec::new(alloc),
         refused: false,

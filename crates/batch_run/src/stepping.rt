@@ -1,5 +1,5 @@
 // One line of a batch.
-ghost use Rattle.std.specs.Prelude.{Err, IfOk, Ok, Some, IfSome};
+ghost use Rattle.std.specs.Prelude.{◌≡◌, false, Err, IfOk, Ok, Some, IfSome};
 ghost use Rattle.rename_rules.specs.Renaming.{IsRenaming};
 ghost use Rattle.offences.specs.Refusals.{refusal_of};
 ghost use Rattle.renamed.specs.Rename.{RenamesOver};
@@ -8,10 +8,9 @@ ghost use Rattle.batch_run.specs.Stepping.{IsAnswered, IsReady, Steps};
 
 use crate::batch_line::BatchLine;
 use crate::replies::{push_edits, push_refusal};
-use analysis::Analysis;
+use crate::standing::Standing;
 use cs_base::{Edits, Memory};
 use edited_files::TextEdits;
-use kept_analysis::advance;
 use offences::{PlanFault, Refusal};
 use rename_plan::plan_rename;
 use std::alloc::Global;
@@ -21,13 +20,13 @@ use ws_file::Workspace;
 /// and whether one was refused.
 #[derive(Drop)]
 pub struct Batching {
-    pub analysis: Analysis,
+    pub analysis: Standing,
     pub edits: TextEdits,
     pub text: Vec<u8>,
     pub refused: bool,
 }
 
-/// Runs the line. Behind an accepted one the analysis goes on with the files as it leaves them.
+/// Runs the line. Behind an accepted one the analysis goes on with the files as it leaves them, once a line asks for it.
 pub fn run_line(
     alloc: Global,
     ws: &Workspace,
@@ -37,9 +36,36 @@ pub fn run_line(
     requires { IsReady ws.now state }
     ensures { IfOk result (λ now. (plan : Plan) × Steps ws.now line.now plan state now) }
 {
+    let Batching {
+        analysis,
+        edits,
+        text,
+        refused,
+    } = state;
+    let analysis = analysis.settled(alloc)?;
+    let state = Batching {
+        analysis,
+        edits,
+        text,
+        refused,
+    };
+    answer_line(alloc, ws, line, state)
+}
+
+// The same, where the analysis has followed the lines before.
+fn answer_line(
+    alloc: Global,
+    ws: &Workspace,
+    line: &BatchLine,
+    state: Batching,
+) -> Result<Batching, Memory>
+    requires ready { IsReady ws.now state }
+    requires settled { state.analysis.waits ≡ false }
+    ensures { IfOk result (λ now. (plan : Plan) × Steps ws.now line.now plan state now) }
+{
     match plan_rename(
         alloc,
-        &state.analysis,
+        state.analysis.analysis(),
         line.path(),
         line.line(),
         line.column(),
@@ -60,13 +86,14 @@ fn accept_line(
     state: Batching,
 ) -> Result<Batching, Memory>
     requires ready { IsReady ws.now state }
+    requires settled { state.analysis.waits ≡ false }
     requires answered { IsAnswered state line.now (Ok new.now) }
     requires renames { RenamesOver state.analysis.value.workspace state.analysis.value line.now.path line.now.line line.now.column
         line.now.name line.now.strings new.now }
     ensures { IfOk result (λ now. (plan : Plan) × Steps ws.now line.now plan state now) }
 {
     let Batching {
-        analysis,
+        analysis: standing,
         edits,
         text,
         refused,
@@ -75,11 +102,14 @@ fn accept_line(
     let mut text = text;
     push_edits(alloc, &mut text, new)?;
     edits.put_each(alloc, new)?;
-    match analysis.part_at(line.path(), line.line(), line.column()) {
+    match standing
+        .analysis()
+        .part_at(line.path(), line.line(), line.column())
+    {
         Some(part) => {
-            let analysis = advance(alloc, analysis, part, line.name())?;
+            let standing = standing.followed(alloc, part, line.name())?;
             Ok(Batching {
-                analysis,
+                analysis: standing,
                 edits,
                 text,
                 refused,

@@ -1,5 +1,6 @@
 -- What the proofs of this crate rest on.
 mod ByteLemmas
+mod StillLemmas
 mod EditLemmas
 mod FollowLemmas
 mod AdvanceLemmas

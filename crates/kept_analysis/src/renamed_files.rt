@@ -1,11 +1,13 @@
 // Files with their new bytes behind a renaming.
-ghost use Rattle.std.specs.Prelude.{◌≡◌, ◌≤◌, ◌++◌, IfOk, IsSome, OnOk, Some, length};
+ghost use Rattle.std.specs.Prelude.{ℕ, ◌≡◌, ◌≤◌, ◌++◌, ◌∷◌, [], All, IfOk, IsSome, IsTrue, OnOk, Some, length};
 ghost use Rattle.std.specs.Option.{option_map};
 ghost use Rattle.cs_base.specs.Limits.{most_bytes};
 ghost use Rattle.include_tree.specs.Below.source_files.Edited.{edited};
 ghost use Rattle.include_tree.specs.Below.source_files.KeptFiles.{kept_at};
 ghost use Rattle.kept_analysis.specs.Edits.{IsNew, edited_front, edited_one, stands_at};
+ghost use Rattle.analysis.specs.Below.lexer.Places.{pos};
 ghost use Rattle.offences.specs.Moves.{editing_by, put_by};
+ghost use Rattle.offences.specs.declared.puts.Put.TheVariants.{Character};
 
 use analysis::KeptFile;
 use cs_base::{Memory, Pos};
@@ -59,6 +61,26 @@ fn new_bytes(
     }
 }
 
+// Each of these characters stays.
+fn are_characters(puts: &[Put]) -> bool
+    ensures { IsTrue result → All (λ put. put ≡ Character) puts.now }
+{
+    puts.iter().all(|put| matches!(put, Put::Character))
+}
+
+// No member stands in the file with this number, so that each of its characters stays.
+fn is_apart(moves: &Moves, number: u32) -> bool
+    ensures { IsTrue result → (at c : ℕ) → put_by moves.now (pos number at) c ≡ c ∷ [] }
+{
+    if moves.others.len() > 0 {
+        return false;
+    }
+    match moves.files.get(number as usize) {
+        Some(Some(file)) => are_characters(&file.puts),
+        _ => true,
+    }
+}
+
 fn changed(
     alloc: Global,
     moves: &Moves,
@@ -67,6 +89,9 @@ fn changed(
 ) -> Result<Option<Vec<u8>>, Memory>
     ensures { IfOk result (λ b. IsNew (editing_by moves.now number) (Some file.now) (option_map (λ v. v.items) b)) }
 {
+    if is_apart(moves, number) {
+        return Ok(None);
+    }
     let bytes = respelled(alloc, moves, number, file, file.bytes())?;
     if bytes.as_slice() == file.bytes() {
         Ok(None)

@@ -1,3 +1,4 @@
+mod BeginLemmas
 mod ComparedLemmas
 pub mod MeaningLemmas
 pub mod OnceLemmas

@@ -8,8 +8,10 @@ ghost use Rattle.analysis.specs.Below.scope_bind.Names.{entity_at, declares_at, 
 ghost use Rattle.analysis.specs.Below.source_files.Files.{Table, absent_at};
 ghost use Rattle.analysis.specs.Below.source_files.KeptFiles.{kept_at};
 ghost use Rattle.template_meaning.specs.Below.reordered.Reordered.{plain};
-ghost use Rattle.template_meaning.specs.Compared.{AreAbsent, AreCompared, AreKept, AreNumbered, AreNamed, ArePlaces, AreWithin, IsAlikeAt, IsCompared, IsComparedUnit, IsPlaceOf};
+ghost use Rattle.template_meaning.specs.Compared.{AreAbsent, AreCompared, AreKept, AreNumbered, AreNamed, AreWithin, IsAlikeAt, IsCompared, IsComparedUnit, IsPlaceOf};
 
+use crate::begins::Begins;
+use crate::places::{are_places, places_of};
 use crate::second::is_pseudo;
 use crate::trees::{have_items, turned_tokens};
 use analysis::{Analysis, Bound, KeptFile, Name};
@@ -169,62 +171,11 @@ fn are_within(count: usize, names: &[Name]) -> bool
     true
 }
 
-// The place of a token is number `p`, if there is room for it.
-fn set_place(places: &mut [u32], k: u32, p: usize) {
-    if (k as usize) < places.len() && p <= u32::MAX as usize {
-        places[k as usize] = p as u32;
-    }
-}
-
-// The places of tokens, by their numbers in the new order.
-fn places_of(alloc: Global, perm: &[u32]) -> Result<Vec<u32>, Memory> {
-    let mut places = Vec::new(alloc);
-    for _ in perm {
-        places.push(0)?;
-    }
-    for p in 0..perm.len() {
-        let k = perm[p];
-        set_place(places.as_mut_slice(), k, p);
-    }
-    Ok(places)
-}
-
-fn is_number_at(places: &[u32], k: u32, p: usize) -> bool
-    ensures { IsTrue result → slice_get places.now k ≡ Some p }
-{
-    match places.get(k as usize) {
-        Some(place) => *place as usize == p,
-        None => false,
-    }
-}
-
-// Number `p` is the place of its token.
-fn is_placed(perm: &[u32], places: &[u32], p: usize) -> bool
-    ensures { IsTrue result → (k : ℕ) → slice_get perm.now p ≡ Some k → slice_get places.now k ≡ Some p }
-{
-    match perm.get(p) {
-        Some(k) => is_number_at(places, *k, p),
-        None => false,
-    }
-}
-
-// They are the places of the tokens.
-fn are_places(perm: &[u32], places: &[u32]) -> bool
-    ensures { IsTrue result → ArePlaces perm.now places.now }
-{
-    for p in 0..perm.len() {
-        if !is_placed(perm, places, p) {
-            return false;
-        }
-    }
-    true
-}
-
 // A unit is the first in the new order, whose tokens have these numbers.
 fn is_compared_by(
     alloc: Global,
     order: &[usize],
-    begins: &[u32],
+    begins: &Begins,
     a: &Analysis,
     b: &Analysis,
     unit: u32,
@@ -246,7 +197,7 @@ fn is_compared_by(
         return Ok(false);
     };
     let numbers = perm.as_slice();
-    let places = places_of(alloc, numbers)?;
+    let places = places_of(alloc, numbers, numbers.len())?;
     let all = places.as_slice();
     if all.len() > u32::MAX as usize {
         return Ok(false);
@@ -302,9 +253,13 @@ fn is_compared(
         → slice_get b.now.value.units (unit - 1) ≡ Some v → IsCompared functions.now.members order.now u v) }
 {
     let a = functions.analysis();
-    let begins = list_begins(alloc, functions, unit)?;
-    let lists = begins.as_slice();
-    let same = is_compared_by(alloc, order, lists, a, b, unit)?;
+    let lists = list_begins(alloc, functions, unit)?;
+    let count = a.text(unit).toks().len();
+    let found = Begins::of(alloc, lists, count)?;
+    let Some(begins) = found else {
+        return Ok(false);
+    };
+    let same = is_compared_by(alloc, order, &begins, a, b, unit)?;
     Ok(same)
 }
 

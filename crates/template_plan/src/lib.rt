@@ -7,11 +7,13 @@
 //! are made, the workspace means what it meant (`ReordersOver` of `reordered`). It reads and writes no files: `apply`
 //! of `edited_files` puts the edits. The law behind it is `orders_keep_meaning` of `template_meaning`: there the laws on
 //! units, runs and files meet. They speak of C99 and C11. Where a unit is of GNU C, the edited files are analysed once more
-//! in memory (`second.rt`) and compared with the first analysis, unit by unit and file by file: tokens, trees (`trees.rt`)
+//! in memory (`second.rt`) and compared with the first analysis, unit by unit and file by file: tokens, trees (`trees.rt`, by the lists of `begins.rt`)
 //! and names (`comparing.rt`); where they differ, the plan answers as if memory ran out.
 #![tactic(auto)]
 
+mod begins;
 mod comparing;
+mod places;
 mod plan;
 mod second;
 mod trees;

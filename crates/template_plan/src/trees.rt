@@ -2,8 +2,9 @@
 ghost use Rattle.std.specs.Prelude.{◌≡◌, ◌+◌, ◌<◌, ◌≤◌, ◌++◌, ◌∷◌, [], length, false, IfOk, IfSome, IsTrue};
 ghost use Rattle.c99_tree.specs.Tree.{Node, size_of};
 ghost use Rattle.c_types.specs.Children.{from_child};
-ghost use Rattle.template_meaning.specs.Matched.{begun, inside, is_listed, items_on, node_count, turned, ends_so, EachHas, HaveItems, IsChildPut, IsItemPut, IsNodeNumber, IsNodePut, IsTokenPut, IsTurnedTree, ItemsAre, Matches, MatchesOn};
+ghost use Rattle.template_meaning.specs.Matched.{inside, is_listed, items_on, node_count, turned, ends_so, EachHas, HaveItems, IsChildPut, IsItemPut, IsNodeNumber, IsNodePut, IsTokenPut, IsTurnedTree, ItemsAre, Matches, MatchesOn};
 
+use crate::begins::Begins;
 use c_types::{Part, child_at, first_token, is_at, is_list};
 use c99_tree::{Label, Production, Tree};
 use cs_base::Memory;
@@ -17,13 +18,6 @@ fn is_same_label(alloc: Global, one: Label, other: Label) -> bool
     let left = Tree::new(alloc, one, 0);
     let right = Tree::new(alloc, other, 0);
     is_same_tree(&left, &right)
-}
-
-// Whether a list begins with a token.
-fn is_begun(begins: &[u32], k: u32) -> bool
-    ensures { result ≡ begun begins.now k }
-{
-    begins.iter().any(|begin| *begin == k)
 }
 
 // Whether the last child of a node is a token.
@@ -42,12 +36,12 @@ fn ends_in_token(tree: &Tree) -> bool
 }
 
 // Whether a node is a list that begins with one of these tokens.
-fn is_among(begins: &[u32], tree: &Tree) -> bool
+fn is_among(begins: &Begins, tree: &Tree) -> bool
     ensures { result ≡ is_listed begins.now tree.now.label tree.now.under }
 {
     let label = tree.label();
     (is_at(label, Production::Post, 2) || is_list(label))
-        && (is_begun(begins, first_token(tree, 0)) && ends_in_token(tree))
+        && (begins.has(first_token(tree, 0)) && ends_in_token(tree))
 }
 
 // Token `i` is passed, if child `k` is the next token.
@@ -138,7 +132,7 @@ fn node_number(tree: &Tree, number: usize) -> Option<&Tree>
 fn is_turned(
     alloc: Global,
     order: &[usize],
-    begins: &[u32],
+    begins: &Begins,
     listed: bool,
     old: &Tree,
     new: &Tree,
@@ -166,7 +160,7 @@ fn is_turned(
 fn is_turned_at(
     alloc: Global,
     order: &[usize],
-    begins: &[u32],
+    begins: &Begins,
     listed: bool,
     old: &Tree,
     new: &Tree,
@@ -189,7 +183,7 @@ fn is_turned_at(
 fn is_child_put(
     alloc: Global,
     order: &[usize],
-    begins: &[u32],
+    begins: &Begins,
     listed: bool,
     inner: &Tree,
     new: &Tree,
@@ -211,7 +205,7 @@ fn is_child_put(
 fn is_put(
     alloc: Global,
     order: &[usize],
-    begins: &[u32],
+    begins: &Begins,
     listed: bool,
     old: &Tree,
     new: &Tree,
@@ -242,7 +236,7 @@ fn is_put(
 fn is_shuffled(
     alloc: Global,
     order: &[usize],
-    begins: &[u32],
+    begins: &Begins,
     old: &Tree,
     new: &Tree,
     perm: &mut Vec<u32>,
@@ -271,7 +265,7 @@ fn is_shuffled(
 fn passed(
     alloc: Global,
     order: &[usize],
-    begins: &[u32],
+    begins: &Begins,
     old: &Tree,
     new: &Tree,
     k: u32,
@@ -306,7 +300,7 @@ fn passed(
 fn is_item_put(
     alloc: Global,
     order: &[usize],
-    begins: &[u32],
+    begins: &Begins,
     old: &Tree,
     new: &Tree,
     k: u32,
@@ -327,7 +321,7 @@ fn is_item_put(
 fn is_number_put(
     alloc: Global,
     order: &[usize],
-    begins: &[u32],
+    begins: &Begins,
     old: &Tree,
     new: &Tree,
     k: u32,
@@ -394,7 +388,7 @@ fn has_count_at(n: usize, tree: &Tree, k: u32) -> bool
 
 /// Each list below that begins with one of these tokens has so many items.
 #[cycle(items)]
-pub(crate) fn have_items(n: usize, begins: &[u32], tree: &Tree) -> bool
+pub(crate) fn have_items(n: usize, begins: &Begins, tree: &Tree) -> bool
     ensures { IsTrue result → EachHas n begins.now tree.now.under }
 {
     let count = tree.len();
@@ -407,7 +401,7 @@ pub(crate) fn have_items(n: usize, begins: &[u32], tree: &Tree) -> bool
 }
 
 #[cycle(items)]
-fn have_items_at(n: usize, begins: &[u32], tree: &Tree, k: u32) -> bool
+fn have_items_at(n: usize, begins: &Begins, tree: &Tree, k: u32) -> bool
     ensures { IsTrue result → EachHas n begins.now (from_child (k + 1) tree.now.under) → EachHas n begins.now (from_child k tree.now.under) }
 {
     match child_at(tree, k) {
@@ -423,7 +417,7 @@ fn have_items_at(n: usize, begins: &[u32], tree: &Tree, k: u32) -> bool
 }
 
 // A node has so many items, if it is a list that begins with one of these tokens.
-fn has_items(n: usize, begins: &[u32], tree: &Tree) -> bool
+fn has_items(n: usize, begins: &Begins, tree: &Tree) -> bool
     ensures { IsTrue result → HaveItems n begins.now tree.now.label tree.now.under }
 {
     if is_among(begins, tree) {
@@ -437,7 +431,7 @@ fn has_items(n: usize, begins: &[u32], tree: &Tree) -> bool
 pub(crate) fn turned_tokens(
     alloc: Global,
     order: &[usize],
-    begins: &[u32],
+    begins: &Begins,
     old: &Tree,
     new: &Tree,
 ) -> Result<Option<Vec<u32>>, Memory>

@@ -1,5 +1,0 @@
-use Rattle.std.proofs.Common.{◌≡◌, ◌<◌, ℕ, Some, slice_get}
-use Rattle.template_plan.proofs.comparing.are_places.Given as goal
-
-abbrev pub invariant-loop-p : goal.invariant-loop-p
-invariant-loop-p l = (q k : ℕ) → q < l.p → slice_get l.perm q ≡ Some k → slice_get l.places k ≡ Some q
