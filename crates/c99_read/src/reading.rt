@@ -67,7 +67,6 @@ impl<'a> Reader<'a> {
     }
 
     #[cycle(reading)]
-    #[inline(never)]
     // The node of an operand and of what operators join to it: the innermost operand is read, and then each production
     // over it, from the innermost out. Most have no operator, and are their operand. All of them have one frame.
     fn binary(
@@ -249,7 +248,6 @@ impl<'a> Reader<'a> {
     }
 
     #[cycle(reading)]
-    #[inline(never)]
     // The node of an alternative that is one production, where it is left out.
     fn alone(
         &mut self,
@@ -270,7 +268,6 @@ impl<'a> Reader<'a> {
     }
 
     #[cycle(reading)]
-    #[inline(never)]
     // The node of an alternative that begins with a production and may end there.
     fn led(
         &mut self,
@@ -302,7 +299,6 @@ impl<'a> Reader<'a> {
     }
 
     #[cycle(reading)]
-    #[inline(never)]
     // A node is opened, its items are read, and it is closed.
     fn opened(
         &mut self,
