@@ -44,7 +44,14 @@ const BEHIND: [(&[u8], usize, &[u8], &str, &str); 4] = [
 
 // The same of texts of which the entities alone are told: a member and a tag of the front, a function of it that is called and an
 // enumerator, a name that is declared once more and hidden, and one that is declared as another one.
-const BOUND: [(&[u8], usize, &[u8], &str); 4] = [
+const BOUND: [(&[u8], usize, &[u8], &str); 5] = [
+    // A front behind a function with a `goto`.
+    (
+        b"int f ( void ) { goto l ; l : return 0 ; } int g",
+        1,
+        b"int f ( void ) { goto l ; l : return 0 ; } int g ( void ) { goto m ; m : return f ( ) ; }",
+        ". 1 . . . . . 9 . 9 . . . . . . 16 . . . . . 24 . 24 . . 1 . . . .",
+    ),
     (
         b"struct s { int m ; } ; int f",
         1,

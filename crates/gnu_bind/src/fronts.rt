@@ -86,7 +86,7 @@ fn known_of(
 
 impl BoundFront {
     /// What is known behind the external declarations of this tree, which begins a unit of these tokens; none where something
-    /// is at fault there, a `goto` waits for its label, or the tree has the last token.
+    /// is at fault there, or the tree has the last token.
     pub fn of(
         alloc: Global,
         toks: &[Tok],

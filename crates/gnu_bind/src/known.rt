@@ -1,5 +1,5 @@
 // What is known of declarations behind a front, and the same in another text.
-ghost use Rattle.std.specs.Prelude.{◌≡◌, ◌++◌, [], map, reverse, IfOk, IfSome, OnOk};
+ghost use Rattle.std.specs.Prelude.{◌≡◌, ◌++◌, map, reverse, IfOk, IfSome, OnOk};
 ghost use Rattle.c_types.specs.Declarations.{no_facts};
 ghost use Rattle.scope_bind.specs.Known.{known};
 ghost use Rattle.scope_bind.specs.Carried.{behind_front, carried, carried_facts};
@@ -13,18 +13,19 @@ use scope_bind::Facts;
 use std::alloc::Global;
 use std::marker::Model;
 
-/// Declarations, what is bound, and what has begun and is complete. Contracts see the facts, which have no fault and no
-/// `goto`.
+/// Declarations, what is bound, what has begun and is complete, and the labels that the last function jumps to. Contracts see
+/// the facts, which have no fault.
 #[derive(Drop)]
 pub(crate) struct KnownFront {
     declared: Vec<Declaration>,
     occurrences: Vec<Occurrence>,
     begun: Vec<u32>,
     complete: Vec<u32>,
+    jumps: Vec<u32>,
 }
 
 impl Model for KnownFront {
-    ghost use Rattle.std.specs.Prelude.{[], None, reverse};
+    ghost use Rattle.std.specs.Prelude.{None, reverse};
     ghost use Rattle.c_types.specs.Declarations.{Facts};
 
     ghost Value = { Facts };
@@ -34,7 +35,7 @@ impl Model for KnownFront {
       occurrences = reverse f.occurrences.items;
       begun = f.begun.items;
       complete = f.complete.items;
-      jumps = [];
+      jumps = f.jumps.items;
       fault = None;
     } };
 }
@@ -89,12 +90,24 @@ fn complete_all(way: Way, facts: &mut Facts<'_>, complete: &[u32]) -> Result<(),
     Ok(())
 }
 
+fn jump_all(way: Way, facts: &mut Facts<'_>, jumps: &[u32]) -> Result<(), Memory>
+    ensures { OnOk result (facts.new ≡ known facts.old.toks (record facts.old.facts {
+      jumps = facts.old.facts.jumps ++ map (behind_front way.front way.text) jumps.now;
+    })) }
+{
+    let count = jumps.len();
+    'labels: for k in 0..count {
+        facts.jump(way.at(jumps[k])?)?;
+    }
+    Ok(())
+}
+
 impl KnownFront {
-    /// What is known, where nothing is at fault and no `goto` waits for its label.
+    /// What is known, where nothing is at fault.
     pub(crate) fn of(alloc: Global, facts: &Facts<'_>) -> Result<Option<KnownFront>, Memory>
         ensures { IfOk result (λ o. IfSome o (λ k. k ≡ facts.now.facts)) }
     {
-        if facts.fault().is_some() || !facts.has_no_jump() {
+        if facts.fault().is_some() {
             return Ok(None);
         }
         Ok(Some(KnownFront {
@@ -102,6 +115,7 @@ impl KnownFront {
             occurrences: Vec::from_slice(alloc, facts.occurrences())?,
             begun: Vec::from_slice(alloc, facts.begun())?,
             complete: Vec::from_slice(alloc, facts.completed())?,
+            jumps: Vec::from_slice(alloc, facts.jumping())?,
         }))
     }
 
@@ -113,6 +127,7 @@ impl KnownFront {
         declare_all(way, facts, self.declared.as_slice())?;
         occur_all(way, facts, self.occurrences.as_slice())?;
         begin_all(way, facts, self.begun.as_slice())?;
-        complete_all(way, facts, self.complete.as_slice())
+        complete_all(way, facts, self.complete.as_slice())?;
+        jump_all(way, facts, self.jumps.as_slice())
     }
 }

@@ -1,5 +1,5 @@
 // What is known once a part of a unit is read.
-ghost use Rattle.std.specs.Prelude.{◌≡◌, [], filter, map, reverse, slice_get, true, IfOk, OnOk, Some};
+ghost use Rattle.std.specs.Prelude.{◌≡◌, [], filter, map, reverse, slice_get, IfOk, OnOk, Some};
 ghost use Rattle.std.specs.Option.{option_map};
 ghost use Rattle.c_types.specs.Faults.{number_of, comes_first, first_fault};
 ghost use Rattle.c_types.specs.Declarations.{no_facts, is_in, with_fault, with_occurrence, with_declaration, with_begun, with_complete, looked_up, visible, in_scope, anywhere, linked, is_mixed};
@@ -199,11 +199,11 @@ impl<'a> Facts<'a> {
         self.complete.as_slice()
     }
 
-    /// No `goto` waits for its label.
-    pub fn has_no_jump(&self) -> bool
-        ensures { result ≡ true → self.now.facts.jumps ≡ [] }
+    /// The labels that the `goto`s of the function name whose body was the last to begin.
+    pub fn jumping(&self) -> &[u32]
+        ensures { result.now ≡ self.now.facts.jumps }
     {
-        self.jumps.is_empty()
+        self.jumps.as_slice()
     }
 
     /// What is bound, the first one first.
