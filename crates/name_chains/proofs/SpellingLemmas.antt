@@ -1,11 +1,12 @@
 -- Spellings with numbers, one token after another.
-use Rattle.std.proofs.Common.{ℕ, zero, suc, ◌+◌, ◌<◌, ◌≡◌, Bool, true, false, not, if◌then◌else◌, true≢false, List, [], ◌∷◌, ◌++◌, map, take, length, get_or, None, Some, position, refl, sym, ap, cond, ◌∙◌, inl, inr, arith, length-append, nat_lt}
+use Rattle.std.proofs.Common.{ℕ, zero, suc, ◌+◌, ◌<◌, ◌≡◌, Bool, true, false, not, if◌then◌else◌, true≢false, List, [], ◌∷◌, ◌++◌, map, take, length, get_or, replicate, slice_set, None, Some, position, Result, Ok, Err, refl, sym, ap, cond, ◌∙◌, inl, inr, arith, length-append, nat_lt}
 use borrow.Author.Tests.{ltb-false}
 use Rattle.std.specs.Prelude.{◌==◌}
 use Rattle.std.specs.List.{prefix_len, position_or_len, list_any}
+use Rattle.std.specs.Result.{IfOk}
 use Rattle.std.specs.Str.{bytes_eq}
 use Rattle.std.proofs.lemmas.Bool.{cases_Bool, cases_eq, eq-eqb, ne_eqb, lt-ltb, cond-true, cond-false}
-use Rattle.std.proofs.lemmas.List.{map-append, take_more}
+use Rattle.std.proofs.lemmas.List.{map-append, take_more, get_or-set_same, get_or-set_other}
 use Rattle.std.proofs.lemmas.List.Folds.{list_any_at}
 use Rattle.std.proofs.lemmas.List.Quantifiers.{position-Some}
 use Rattle.std.proofs.lemmas.List.Sums.{fails_before_first, position_or_len_is}
@@ -16,7 +17,7 @@ use Rattle.cs_base.proofs.OptionLemmas.{None≢Some, one_place}
 use Rattle.cs_base.proofs.FileMapLemmas.{bytes_eq-equal as same_spelling}
 use Rattle.cs_base.proofs.ListLemmas.{spelled_same}
 use Rattle.c_types.specs.Declarations.{spelling_at}
-use Rattle.name_chains.specs.Spellings.{number_at, AreNumbers, AreNumbered, IsNumberOf}
+use Rattle.name_chains.specs.Spellings.{number_at, AreNumbers, AreNumbered, AreSigns, IsNumberOf}
 
 -- ---- Numbers are equal where spellings are
 
@@ -184,3 +185,42 @@ pub numbered-next : (toks : List Token) (k : ℕ) (t : Token) (numbers longer : 
 numbered-next toks k t numbers longer n old new text l at a said is pushed =
     let more : take (k + 1) toks ≡ take k toks ++ t ∷ [] = take_more toks k t l ∙ ap (λ x. take k toks ++ x ∷ []) (sym at) in
     rw (more, pushed) (numbered_more (take k toks) t numbers n old new a (rw said at is))
+
+-- ---- Spellings of one byte
+
+pub no_signs : (n : ℕ) (spellings : List (List ℕ)) → AreSigns (replicate n 0) spellings
+no_signs n spellings = λ b. inl (none n b)
+  where
+    none : (n b : ℕ) → ◌≡◌ {A = ℕ} (get_or (replicate n 0) b 0) 0
+    none zero b = refl
+    none (suc n) zero = refl
+    none (suc n) (suc b) = none n b
+
+pub signs_stay : (signs s : List ℕ) (old new : List (List ℕ)) (n : ℕ) → IsNumberOf old new s n → AreSigns signs old → AreSigns signs new
+signs_stay signs s old new n is are = λ b. elim (are b) [
+  | inl none ↦ inl none
+  | inr known ↦ inr (is.stay (b ∷ []) (get_or signs b 0) known)
+]
+
+pub signs_keep : {E : Type 0} (signs s : List ℕ) (old new : List (List ℕ)) (r : Result ℕ E) → IfOk r (λ n. IsNumberOf old new s n) → AreSigns signs old
+    → IfOk r (λ n. AreSigns signs new)
+signs_keep signs s old new (Ok n) is are = signs_stay signs s old new n is are
+signs_keep signs s old new (Err e) is are = tt
+
+pub known_sign : (signs : List ℕ) (spellings : List (List ℕ)) (b n : ℕ) → AreSigns signs spellings → n ≡ get_or signs b 0 → (n ≡ 0 → ⊥)
+    → IsNumberOf spellings spellings (b ∷ []) n
+known_sign signs spellings b n are is some = elim (are b) [
+  | inl none ↦ absurd (some (is ∙ none))
+  | inr known ↦ IsNumberOf-found spellings (b ∷ []) n (known ∙ ap Some (sym is))
+]
+
+pub signs_more : (signs : List ℕ) (old new : List (List ℕ)) (a n : ℕ) → a < length signs → IsNumberOf old new (a ∷ []) n → AreSigns signs old
+    → AreSigns (slice_set signs a n) new
+signs_more signs old new a n within is are = λ b. elim (cases_eq b a) [
+  | inl same ↦
+      let told : get_or (slice_set signs a n) a 0 ≡ n = get_or-set_same signs a n 0 within in
+      inr (rw same (is.here ∙ ap Some (sym told)))
+  | inr apart ↦
+      let told : get_or (slice_set signs a n) b 0 ≡ get_or signs b 0 = get_or-set_other signs a b n 0 apart in
+      rw told (signs_stay signs (a ∷ []) old new n is are b)
+]

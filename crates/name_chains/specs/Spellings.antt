@@ -1,5 +1,5 @@
 -- The spellings of tokens, each by its number.
-use Rattle.std.specs.Prelude.{ℕ, ◌≡◌, List, length, Some, position, get_or, ◌==◌}
+use Rattle.std.specs.Prelude.{ℕ, ◌≡◌, ◌⊎◌, List, [], ◌∷◌, length, Some, position, get_or, ◌==◌}
 use Rattle.std.specs.Str.{bytes_eq}
 use Rattle.cs_base.specs.Token.{Token}
 use Rattle.c_types.specs.Declarations.{spelling_at, alike}
@@ -21,3 +21,7 @@ pub record AreNumbered (toks : List Token) (numbers : List ℕ) (spellings : Lis
 pub record IsNumberOf (old new : List (List ℕ)) (spelling : List ℕ) (number : ℕ) : Type 0 where
   pub here : position (bytes_eq spelling) new ≡ Some number
   pub stay : (s : List ℕ) (n : ℕ) → position (bytes_eq s) old ≡ Some n → position (bytes_eq s) new ≡ Some n
+
+-- for each byte 0, or the number that it has as a spelling of its own
+abbrev pub AreSigns : List ℕ → List (List ℕ) → Type 0
+AreSigns signs spellings = (b : ℕ) → (get_or signs b 0 ≡ 0) ⊎ (position (bytes_eq (b ∷ [])) spellings ≡ Some (get_or signs b 0))

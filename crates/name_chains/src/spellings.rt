@@ -1,7 +1,7 @@
 // The spellings of the tokens of a unit, each by a number.
-ghost use Rattle.std.specs.Prelude.{◌≡◌, ◌≤◌, [], position, Some, IfOk};
+ghost use Rattle.std.specs.Prelude.{ℕ, List, ◌≡◌, ◌≤◌, [], position, Some, IfOk};
 ghost use Rattle.std.specs.Str.{bytes_eq};
-ghost use Rattle.name_chains.specs.Spellings.{number_at, AreNumbers, AreNumbered, IsNumberOf};
+ghost use Rattle.name_chains.specs.Spellings.{number_at, AreNumbers, AreNumbered, AreSigns, IsNumberOf};
 
 use cs_base::{Memory, Tok};
 use indexmap::IndexSet;
@@ -43,6 +43,49 @@ impl<'a> Spellings<'a> {
     }
 }
 
+// No number of a byte is known.
+fn no_signs() -> [u32; 256]
+    ensures { (spellings : List (List ℕ)) → AreSigns result spellings }
+{
+    [0; 256]
+}
+
+// The number of the spelling, which is a new one where the spelling is new.
+fn number_in<'a>(spellings: &mut Spellings<'a>, spelling: &'a [u8]) -> Result<u32, Memory>
+    ensures { IfOk result (λ number. IsNumberOf spellings.old spellings.new spelling.now number) }
+{
+    let number = spellings.numbered(spelling)?;
+    if number > u32::MAX as usize {
+        return Err(Memory);
+    }
+    Ok(number as u32)
+}
+
+// The same. The numbers of bytes that are spellings of their own are kept beside, 0 where none is known: so the
+// punctuators, which are half of the tokens, are not sought.
+fn number_by<'a>(
+    spellings: &mut Spellings<'a>,
+    signs: &mut [u32; 256],
+    spelling: &'a [u8],
+) -> Result<u32, Memory>
+    requires signs { AreSigns signs.old spellings.old }
+    ensures signs { IfOk result (λ _. AreSigns signs.new spellings.new) }
+    ensures number { IfOk result (λ number. IsNumberOf spellings.old spellings.new spelling.now number) }
+{
+    match spelling {
+        [sign] => {
+            let known = signs[*sign as usize];
+            if known != 0 {
+                return Ok(known);
+            }
+            let number = number_in(spellings, spelling)?;
+            signs[*sign as usize] = number;
+            Ok(number)
+        }
+        _ => number_in(spellings, spelling),
+    }
+}
+
 // The numbers of the tokens, each of which is put among the spellings.
 fn told<'a>(
     alloc: Global,
@@ -53,12 +96,10 @@ fn told<'a>(
     ensures { IfOk result (λ numbers. AreNumbered toks.now numbers.items spellings.new) }
 {
     let mut numbers = Vec::with_capacity(alloc, toks.len())?;
+    let mut signs = no_signs();
     'toks: for tok in toks {
-        let number = spellings.numbered(tok.text())?;
-        if number > u32::MAX as usize {
-            return Err(Memory);
-        }
-        numbers.push(number as u32)?;
+        let number = number_by(spellings, &mut signs, tok.text())?;
+        numbers.push(number)?;
     }
     Ok(numbers)
 }
