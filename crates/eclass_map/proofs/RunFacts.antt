@@ -60,6 +60,11 @@ pub begins_first : (n x : ℕ) (runs : List Run) → AreRuns 0 runs n → x < n 
 begins_first n x [] are held = absurd (omega (arith, are, held))
 begins_first n x (r ∷ runs) are held = let first = are.0 in (omega arith, omega (arith, first))
 
+pub next_at : (runs : List Run) (k n : ℕ) → k < length runs → next_first (drop k runs) n ≡ (get_or runs k no_run).first
+next_at [] k n within = absurd (omega (arith, within))
+next_at (r ∷ runs) zero n within = refl
+next_at (r ∷ runs) (suc k) n within = next_at runs k n (omega (arith, within))
+
 pub next_end : (runs : List Run) (k n : ℕ) → length runs ≤ k → next_first (drop k runs) n ≡ n
 next_end runs k n past = ap (λ v. next_first v n) (drop_all k runs past)
 

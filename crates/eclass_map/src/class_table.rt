@@ -208,14 +208,15 @@ impl Classes {
         }
     }
 
-    // The part of a class that begins at a character.
+    // The part of a class that begins at a character. Before tokens are joined, the number of a class is that of the
+    // run of its characters.
     fn member(&self, class: u32, x: u32) -> Part
         requires held { x < length self.now.labels.spots }
         requires known { class < length self.now.labels.walks }
         ensures { result ≡ part_with self.now class x }
     {
         Part {
-            start: self.places.at(x),
+            start: self.places.at(x, class as usize),
             len: self.labels.length_of(class),
         }
     }

@@ -1,5 +1,5 @@
 // The positions of characters by their numbers: those that are neighbours in a file are told by the first of them.
-ghost use Rattle.std.specs.Prelude.{ℕ, ◌≡◌, ◌+◌, ◌^◌, ◌<◌, ◌≤◌, ◌++◌, ◌∷◌, [], length, drop, slice_get, slice_index_or, Some, IfOk, OnOk};
+ghost use Rattle.std.specs.Prelude.{ℕ, ◌≡◌, ◌+◌, ◌^◌, ◌<◌, ◌≤◌, ◌++◌, ◌∷◌, [], length, drop, slice_get, slice_index_or, Some, IfOk, IsTrue, OnOk};
 ghost use Rattle.eclass_map.specs.ClassTable.{fresh_places, nowhere};
 ghost use Rattle.eclass_map.specs.Places.{next_first, no_run, AreRuns};
 ghost use Rattle.eclass_map.specs.Settled.{AreApart, ArePlaced, Fits};
@@ -76,12 +76,12 @@ impl Places {
         self.count += len;
     }
 
-    /// The position with this number.
-    pub fn at(&self, x: u32) -> Pos
+    /// The position with this number. The run at the guess is tried first.
+    pub fn at(&self, x: u32, guess: usize) -> Pos
         requires { x < length self.now.list }
         ensures { result ≡ slice_index_or self.now.list x nowhere }
     {
-        let run = self.runs[run_of(&self.runs, self.count, x)];
+        let run = self.runs[run_of(&self.runs, self.count, x, guess)];
         Pos {
             file: run.start.file,
             at: run.start.at + (x - run.first),
@@ -89,14 +89,34 @@ impl Places {
     }
 }
 
-// The run of a character, by halving.
-fn run_of(runs: &[Run], count: u32, x: u32) -> usize
+#[tactic(auto, using(crate::proofs::RunFacts::next_at, crate::proofs::RunFacts::next_end))]
+// The number of the first character of run `k`, or how many characters there are.
+fn first_of(runs: &[Run], count: u32, k: usize) -> u32
+    ensures { result ≡ next_first (drop k runs.now) count }
+{
+    if k < runs.len() { runs[k].first } else { count }
+}
+
+// Run `k` has the character.
+fn is_run_of(runs: &[Run], count: u32, x: u32, k: usize) -> bool
+    ensures within { IsTrue result → k < length runs.now }
+    ensures begun { IsTrue result → (slice_index_or runs.now k no_run).first ≤ x }
+    ensures last { IsTrue result → x < next_first (drop (k + 1) runs.now) count }
+{
+    k < runs.len() && runs[k].first <= x && x < first_of(runs, count, k + 1)
+}
+
+// The run of a character: the one at the guess, or found by halving.
+fn run_of(runs: &[Run], count: u32, x: u32, guess: usize) -> usize
     requires runs { AreRuns 0 runs.now count }
     requires held { x < count }
     ensures within { result < length runs.now }
     ensures begun { (slice_index_or runs.now result no_run).first ≤ x }
     ensures last { x < next_first (drop (result + 1) runs.now) count }
 {
+    if is_run_of(runs, count, x, guess) {
+        return guess;
+    }
     let mut low = 0;
     let mut high = runs.len();
     while high - low > 1 {
