@@ -3,7 +3,8 @@ use Rattle.std.proofs.Common.{ℕ, ◌+◌, ◌≡◌, true, false, if◌then◌
 use Rattle.std.specs.Result.{IsErrAnd}
 use Rattle.std.proofs.lemmas.Bool.{false≢true}
 use Rattle.c99_grammar.specs.declared.dialects.Dialect.{Dialect}
-use Rattle.c99_tree.specs.Tree.{Node, node_of, none}
+use Rattle.c99_tree.specs.Tree.{Node, node_of, none, leaf, put, collapsed}
+use Rattle.c99_grammar.specs.declared.classes.Class.{Class}
 use Rattle.c99_tree.specs.declared.production.Production.{Production}
 use Rattle.c99_tree.specs.declared.production.Production.TheVariants.{Declarator, Specs}
 use Rattle.c99_grammar.specs.Items.{Item, one, part, end_of_text, act, choice, deep, many, maybe, ◌·◌, own, otherwise, next, next_two, Test, Alternative}
@@ -12,11 +13,12 @@ use Rattle.c99_read.specs.declared.faults.ReadRefusal.{ReadRefusal}
 use Rattle.c99_read.specs.declared.faults.ReadRefusal.TheVariants as refusal
 use Rattle.c99_read.specs.declared.reader.Begun.{Begun}
 use Rattle.c99_read.specs.declared.reader.Outer.{Outer}
-use Rattle.c99_read.specs.Answer.{Reads, ReadsNode, Opens, Wraps, Closes, IsBegun, with_built, behind}
+use Rattle.c99_read.specs.Answer.{Reads, ReadsNode, Opens, Wraps, Closes, IsBegun, Takes, is_next, with_built, behind}
 use Rattle.c99_read.specs.Choosing.{Choice, chosen}
 use Rattle.c99_read.specs.Leading.{is_optional, CanBeLeftOut}
-use Rattle.c99_read.specs.Reading.{produce, repeat, Step, and_then, may, step, alternative, whole, syntax, too_deep}
+use Rattle.c99_read.specs.Reading.{produce, repeat, Step, and_then, may, step, alternative, whole, syntax, too_deep, take_one}
 use Rattle.c99_read.specs.State.{State, class_at, opened, closed, collapses, is_declarator, is_specs, names_opened, names_closed, nearest, finished}
+use Rattle.c99_read.specs.Leads.{IsPlain}
 use Rattle.c99_read.proofs.TurnLemmas.{read-chosen, read-none}
 
 -- ---- What may be read does not depend on the open node
@@ -96,7 +98,7 @@ closed-elsewhere p s s' new outer n b near close = rw (close.0, close.1, near) r
 
 module _ (g : Grammar) (depth : ℕ) (p : Production) (n : ℕ) where
   -- the node, where its items were read from the open node on
-  opened-read : (body : Item) (s s1 s2 new : State) (outer : Outer) (node : Node) → Opens (Ok outer) s s1 p n
+  opened-read : (body : Item) (s s1 s2 new : State) (outer : Outer) (node : Node) → Opens (Ok tt) outer s s1 p n
       → step g (whole g) depth body s1 ≡ Ok s2 → Closes (Ok node) s2 new p outer
       → ReadsNode (Ok node) s new (alternative g (whole g) depth p n body)
   opened-read body s s1 s2 new outer node opening items close = (
@@ -107,13 +109,13 @@ module _ (g : Grammar) (depth : ℕ) (p : Production) (n : ℕ) where
         ∙ ap Ok (closed-elsewhere p s s2 new outer node b opening.1.near close),
   )
 
-  pub opened-ends : (body : Item) (s s1 s2 new : State) (outer : Outer) (r : Result Node ReadRefusal) → Opens (Ok outer) s s1 p n
+  pub opened-ends : (body : Item) (s s1 s2 new : State) (outer : Outer) (r : Result Node ReadRefusal) → Opens (Ok tt) outer s s1 p n
       → step g (whole g) depth body s1 ≡ Ok s2 → Closes r s2 new p outer
       → ReadsNode r s new (alternative g (whole g) depth p n body)
   opened-ends body s s1 s2 new outer (Ok node) opening items close = opened-read body s s1 s2 new outer node opening items close
   opened-ends body s s1 s2 new outer (Err e) opening items close = node-unmade e s new (alternative g (whole g) depth p n body) close
 
-  pub opened-stopped : (body : Item) (s s1 s2 : State) (outer : Outer) (e : ReadRefusal) → Opens (Ok outer) s s1 p n
+  pub opened-stopped : (body : Item) (s s1 s2 : State) (outer : Outer) (e : ReadRefusal) → Opens (Ok tt) outer s s1 p n
       → Reads (Err e) s2 (step g (whole g) depth body s1) → ReadsNode (Err e) s s2 (alternative g (whole g) depth p n body)
   opened-stopped body s s1 s2 outer e opening items = by e items
     where
@@ -209,12 +211,12 @@ module _ (g : Grammar) (depth : ℕ) (p : Production) (n : ℕ) (below : Product
       by refusal.Memory h = h
 
   wrapped : (s1 s2 : State) (first : Node) (outer : Outer) (begun : Begun) → IsBegun begun s
-      → Wraps (Ok outer) s1 s2 (record { production = p; alternative = n }) begun first → s2 ≡ with_built s1 (behind fresh first)
+      → Wraps (Ok tt) outer s1 s2 (record { production = p; alternative = n }) begun first → s2 ≡ with_built s1 (behind fresh first)
   wrapped s1 s2 first outer begun at wrap =
       wrap.0 ∙ ap (λ k. with_built s1 (behind (node_of (record { production = p; alternative = n }) k none) first)) at.at
 
   led-read : (s1 s2 s3 new : State) (first node : Node) (outer : Outer) (begun : Begun) → IsBegun begun s
-      → ReadsNode (Ok first) s s1 (whole g depth (produce below)) → Wraps (Ok outer) s1 s2 (record { production = p; alternative = n }) begun first
+      → ReadsNode (Ok first) s s1 (whole g depth (produce below)) → Wraps (Ok tt) outer s1 s2 (record { production = p; alternative = n }) begun first
       → step g (whole g) depth rest s2 ≡ Ok s3 → Closes (Ok node) s3 new p outer
       → ReadsNode (Ok node) s new (alternative g (whole g) depth p n (part below · rest))
   led-read s1 s2 s3 new first node outer begun at m wrap items close = (
@@ -227,7 +229,7 @@ module _ (g : Grammar) (depth : ℕ) (p : Production) (n : ℕ) (below : Product
   )
 
   pub led-ends : (s1 s2 s3 new : State) (first : Node) (r : Result Node ReadRefusal) (outer : Outer) (begun : Begun) → IsBegun begun s
-      → ReadsNode (Ok first) s s1 (whole g depth (produce below)) → Wraps (Ok outer) s1 s2 (record { production = p; alternative = n }) begun first
+      → ReadsNode (Ok first) s s1 (whole g depth (produce below)) → Wraps (Ok tt) outer s1 s2 (record { production = p; alternative = n }) begun first
       → step g (whole g) depth rest s2 ≡ Ok s3 → Closes r s3 new p outer
       → ReadsNode r s new (alternative g (whole g) depth p n (part below · rest))
   led-ends s1 s2 s3 new first (Ok node) outer begun at m wrap items close = led-read s1 s2 s3 new first node outer begun at m wrap items close
@@ -235,7 +237,7 @@ module _ (g : Grammar) (depth : ℕ) (p : Production) (n : ℕ) (below : Product
       node-unmade e s new (alternative g (whole g) depth p n (part below · rest)) close
 
   pub led-stopped-behind : (s1 s2 s3 : State) (first : Node) (outer : Outer) (begun : Begun) (e : ReadRefusal) → IsBegun begun s
-      → ReadsNode (Ok first) s s1 (whole g depth (produce below)) → Wraps (Ok outer) s1 s2 (record { production = p; alternative = n }) begun first
+      → ReadsNode (Ok first) s s1 (whole g depth (produce below)) → Wraps (Ok tt) outer s1 s2 (record { production = p; alternative = n }) begun first
       → Reads (Err e) s3 (step g (whole g) depth rest s2) → ReadsNode (Err e) s s3 (alternative g (whole g) depth p n (part below · rest))
   led-stopped-behind s1 s2 s3 first outer begun e at m wrap items = by e items
     where
@@ -288,3 +290,55 @@ module _ (g : Grammar) (depth : ℕ) (p : Production) (n : ℕ) (below : Product
       by (refusal.Syntax i) h = λ b. at b (Err (syntax i)) (h begun-fresh)
       by (refusal.TooDeep i) h = λ b. at b (Err (too_deep i)) (h begun-fresh)
       by refusal.Memory h = h
+
+-- ---- An alternative that is one token
+
+module _ (g : Grammar) (depth : ℕ) (p : Production) (n : ℕ) (classes : List Class) (s : State) where
+  abbrev with_none : Node
+  with_none = node_of (record { production = p; alternative = n }) s.at none
+
+  abbrev with_token : Node
+  with_token = node_of (record { production = p; alternative = n }) s.at (put none (leaf s.at))
+
+  single-opened : (b : Node) → is_declarator p ≡ false → opened p n (with_built s b) ≡ with_built s with_none
+  unfolding opened
+  single-opened b plain = ap (λ x. record s { names = if x then names_opened Declarator s.names else s.names; built = with_none }) plain
+
+  single-taken : take_one g classes (with_built s with_none) ≡ (if is_next g classes s then Ok (record s { at = s.at + 1; built = with_token }) else Err (syntax s.at))
+  unfolding take_one class_at
+  single-taken = refl
+
+  single-closed : (b : Node) → IsPlain p
+      → closed p (with_built s b) (record s { at = s.at + 1; built = with_token }) ≡ with_built (record s { at = s.at + 1 }) (behind b with_token)
+  unfolding closed
+  single-closed b plain =
+      ap (λ x. record s { at = s.at + 1; names = if x then names_closed Declarator s.names else s.names; near = nearest p with_token s.near; built = behind b (finished p with_token) })
+      plain.declarator
+      ∙ ap (λ x. record s { at = s.at + 1; near = if x then nearest Specs with_token s.near else s.near; built = behind b (finished p with_token) }) plain.specs
+      ∙ ap (λ x. record s { at = s.at + 1; built = behind b (if x then collapsed with_token else with_token) }) plain.stays
+
+  single-begun : (b : Node) (r : Step) → IsPlain p
+      → (if is_next g classes s then Ok (record s { at = s.at + 1; built = with_token }) else Err (syntax s.at)) ≡ r
+      → alternative g (whole g) depth p n (one classes) (with_built s b) ≡ and_then r (λ s'. Ok (closed p (with_built s b) s'))
+  single-begun b r plain is =
+      ap (λ x. and_then (take_one g classes x) (λ s'. Ok (closed p (with_built s b) s'))) (single-opened b plain.declarator)
+      ∙ ap (λ q. and_then q (λ s'. Ok (closed p (with_built s b) s'))) (single-taken ∙ is)
+
+  pub single-read : (r : Result Node ReadRefusal) (new : State) → IsPlain p → Takes r s new g (record { production = p; alternative = n }) classes
+      → ReadsNode r s new (alternative g (whole g) depth p n (one classes))
+  single-read (Ok node) new plain took = (
+    ap (λ (x : State). x.built) took.2,
+    λ b.
+        single-begun b (Ok (record s { at = s.at + 1; built = with_token })) plain
+        (ap (λ x. if x then Ok (record s { at = s.at + 1; built = with_token }) else Err (syntax s.at)) took.0)
+        ∙ ap Ok (single-closed b plain)
+        ∙ ap (λ x. Ok (with_built x (behind b with_token))) (sym took.2)
+        ∙ ap (λ x. Ok (with_built new (behind b x))) (sym took.1),
+  )
+  single-read (Err (refusal.Syntax i)) new plain took = λ b.
+      single-begun b (Err (syntax s.at)) plain (ap (λ x. if x then Ok (record s { at = s.at + 1; built = with_token }) else Err (syntax s.at)) took.0)
+      ∙ ap Err (sym took.1)
+  single-read (Err (refusal.TooDeep i)) new plain took = λ b.
+      single-begun b (Err (syntax s.at)) plain (ap (λ x. if x then Ok (record s { at = s.at + 1; built = with_token }) else Err (syntax s.at)) took.0)
+      ∙ ap Err (sym took.1)
+  single-read (Err refusal.Memory) new plain took = took

@@ -1,7 +1,11 @@
 -- Productions of expressions: their rows, and what follows their first operands.
-use Rattle.std.proofs.Common.{ℕ, zero, suc, ◌+◌, ◌-◌, ◌<◌, ◌≤◌, ◌≡◌, Bool, true, false, if◌then◌else◌, List, [], ◌∷◌, None, Some, Result, Ok, Err, refl, sym, ap, subst, ◌∙◌, arith}
-use Rattle.std.proofs.lemmas.Bool.{false≢true, and_parts}
+use Rattle.std.proofs.Common.{ℕ, zero, suc, ◌+◌, ◌-◌, ◌<◌, ◌≤◌, ◌≡◌, nat_lt, Bool, true, false, ◌||◌, if◌then◌else◌, List, [], ◌∷◌, None, Some, Result, Ok, Err, refl, sym, ap, subst, ◌∙◌, arith}
+use Rattle.std.proofs.lemmas.Bool.{false≢true, and_parts, ltb-true}
 use Rattle.c99_grammar.specs.declared.dialects.Dialect.{Dialect}
+use Rattle.c99_grammar.specs.declared.dialects.Dialect.TheVariants.{Iso, Gnu}
+use Rattle.c99_grammar.specs.declared.classes.Class.{Class}
+use Rattle.c99_grammar.specs.declared.classes.Class.TheVariants.{Comma, Question, BarBar, AmpAmp, Bar, Caret, Amp, EqEq, BangEq, Less, Greater, LessEq, GreaterEq, ShiftLeft, ShiftRight, Plus, Minus, Star, Slash, Percent, Eq, StarEq, SlashEq, PercentEq, PlusEq, MinusEq, ShiftLeftEq, ShiftRightEq, AmpEq, CaretEq, BarEq}
+use Rattle.c99_grammar.specs.First.{assignments}
 use Rattle.c99_tree.specs.Tree.{Node}
 use Rattle.c99_tree.specs.declared.production.Production.{Production}
 use Rattle.c99_tree.specs.declared.production.Production.TheVariants.{Expr, Assign, Asgop, Cond, Lor, Land, Bor, Bxor, Band, Equal, Relate, Shift, Add, Mul, Cast}
@@ -13,7 +17,7 @@ use Rattle.c99_read.specs.declared.faults.ReadRefusal.{ReadRefusal}
 use Rattle.c99_read.specs.Answer.{ReadsNode, with_built}
 use Rattle.c99_read.specs.Choosing.{Choice, chosen}
 use Rattle.c99_read.specs.Leading.{CanBeLeftOut}
-use Rattle.c99_read.specs.Operators.{is_assign, is_binary, is_operand, operand_of, over, rest_of, rungs, signs}
+use Rattle.c99_read.specs.Operators.{is_assign, is_binary, is_operand, operand_of, over, rest_of, rung, rungs, signs}
 use Rattle.c99_read.specs.Reading.{produce, may, alternative, whole, syntax}
 use Rattle.c99_read.specs.State.{State, class_at, collapses}
 use Rattle.c99_read.proofs.LedLemmas.{node-chosen, node-none, led-left, led-stopped}
@@ -240,3 +244,180 @@ under-stops std depth (suc n) r p s s1 x under starts m =
 pub under-end : (n : ℕ) (r p : Production) → n ≤ 0 → Under n r p → r ≡ p
 under-end zero r p none under = under
 under-end (suc n) r p none under = absurd (omega arith)
+
+-- ---- No operator follows
+
+among-none : (p : Production) (c : Class) → is_binary p ≡ true → is_assign p ≡ false → rungs p < rung c → among (signs p) c ≡ false
+among-none Expr c e f over = expr c over
+  where
+    expr : (c : Class) → 13 < rung c → among (signs Expr) c ≡ false
+    expr Comma over = absurd (omega (arith, over))
+    expr _ over = refl
+among-none Assign c e f over = absurd (false≢true (sym f))
+among-none Cond c e f over = cond c over
+  where
+    cond : (c : Class) → 11 < rung c → among (signs Cond) c ≡ false
+    cond Question over = absurd (omega (arith, over))
+    cond _ over = refl
+among-none Lor c e f over = lor c over
+  where
+    lor : (c : Class) → 10 < rung c → among (signs Lor) c ≡ false
+    lor BarBar over = absurd (omega (arith, over))
+    lor _ over = refl
+among-none Land c e f over = land c over
+  where
+    land : (c : Class) → 9 < rung c → among (signs Land) c ≡ false
+    land AmpAmp over = absurd (omega (arith, over))
+    land _ over = refl
+among-none Bor c e f over = bor c over
+  where
+    bor : (c : Class) → 8 < rung c → among (signs Bor) c ≡ false
+    bor Bar over = absurd (omega (arith, over))
+    bor _ over = refl
+among-none Bxor c e f over = bxor c over
+  where
+    bxor : (c : Class) → 7 < rung c → among (signs Bxor) c ≡ false
+    bxor Caret over = absurd (omega (arith, over))
+    bxor _ over = refl
+among-none Band c e f over = band c over
+  where
+    band : (c : Class) → 6 < rung c → among (signs Band) c ≡ false
+    band Amp over = absurd (omega (arith, over))
+    band _ over = refl
+among-none Equal c e f over = equal c over
+  where
+    equal : (c : Class) → 5 < rung c → among (signs Equal) c ≡ false
+    equal EqEq over = absurd (omega (arith, over))
+    equal BangEq over = absurd (omega (arith, over))
+    equal _ over = refl
+among-none Relate c e f over = relate c over
+  where
+    relate : (c : Class) → 4 < rung c → among (signs Relate) c ≡ false
+    relate Less over = absurd (omega (arith, over))
+    relate Greater over = absurd (omega (arith, over))
+    relate LessEq over = absurd (omega (arith, over))
+    relate GreaterEq over = absurd (omega (arith, over))
+    relate _ over = refl
+among-none Shift c e f over = shift c over
+  where
+    shift : (c : Class) → 3 < rung c → among (signs Shift) c ≡ false
+    shift ShiftLeft over = absurd (omega (arith, over))
+    shift ShiftRight over = absurd (omega (arith, over))
+    shift _ over = refl
+among-none Add c e f over = add c over
+  where
+    add : (c : Class) → 2 < rung c → among (signs Add) c ≡ false
+    add Plus over = absurd (omega (arith, over))
+    add Minus over = absurd (omega (arith, over))
+    add _ over = refl
+among-none Mul c e f over = mul c over
+  where
+    mul : (c : Class) → 1 < rung c → among (signs Mul) c ≡ false
+    mul Star over = absurd (omega (arith, over))
+    mul Slash over = absurd (omega (arith, over))
+    mul Percent over = absurd (omega (arith, over))
+    mul _ over = refl
+among-none _ c e f over = absurd (false≢true e)
+
+assign-none : (c : Class) → 12 < rung c → among assignments c ≡ false
+assign-none Eq over = absurd (omega (arith, over))
+assign-none StarEq over = absurd (omega (arith, over))
+assign-none SlashEq over = absurd (omega (arith, over))
+assign-none PercentEq over = absurd (omega (arith, over))
+assign-none PlusEq over = absurd (omega (arith, over))
+assign-none MinusEq over = absurd (omega (arith, over))
+assign-none ShiftLeftEq over = absurd (omega (arith, over))
+assign-none ShiftRightEq over = absurd (omega (arith, over))
+assign-none AmpEq over = absurd (omega (arith, over))
+assign-none CaretEq over = absurd (omega (arith, over))
+assign-none BarEq over = absurd (omega (arith, over))
+assign-none _ over = refl
+
+abbrev AssignsNone : State → Dialect → Type 0
+AssignsNone s d = 12 < rung (class_at (grammar d) s s.at) → may (grammar d) own (rest_of Assign d) s ≡ false
+
+assigns-none : (std : Dialect) (s : State) → AssignsNone s std
+assigns-none std s =
+    by_dialect (AssignsNone s)
+    (λ v over. ap (λ x. x || false) (assign-none (class_at (grammar (Iso v)) s s.at) over))
+    (λ over. ap (λ x. x || false) (assign-none (class_at (grammar Gnu) s s.at) over)) std
+
+-- the class is no operator of the production
+pub goes-past : (std : Dialect) (p : Production) (s : State) → is_binary p ≡ true → rungs p < rung (class_at (grammar std) s s.at)
+    → may (grammar std) own (rest_of p std) s ≡ false
+goes-past std Assign s e over = assigns-none std s over
+goes-past std Expr s e over = among-none Expr (class_at (grammar std) s s.at) e refl over
+goes-past std Cond s e over = among-none Cond (class_at (grammar std) s s.at) e refl over
+goes-past std Lor s e over = among-none Lor (class_at (grammar std) s s.at) e refl over
+goes-past std Land s e over = among-none Land (class_at (grammar std) s s.at) e refl over
+goes-past std Bor s e over = among-none Bor (class_at (grammar std) s s.at) e refl over
+goes-past std Bxor s e over = among-none Bxor (class_at (grammar std) s s.at) e refl over
+goes-past std Band s e over = among-none Band (class_at (grammar std) s s.at) e refl over
+goes-past std Equal s e over = among-none Equal (class_at (grammar std) s s.at) e refl over
+goes-past std Relate s e over = among-none Relate (class_at (grammar std) s s.at) e refl over
+goes-past std Shift s e over = among-none Shift (class_at (grammar std) s s.at) e refl over
+goes-past std Add s e over = among-none Add (class_at (grammar std) s s.at) e refl over
+goes-past std Mul s e over = among-none Mul (class_at (grammar std) s s.at) e refl over
+goes-past std _ s e over = absurd (false≢true e)
+
+rungs-over : (r : Production) → is_operand r ≡ true → rungs (over r) ≡ rungs r + 1
+rungs-over Cast e = refl
+rungs-over Mul e = refl
+rungs-over Add e = refl
+rungs-over Shift e = refl
+rungs-over Relate e = refl
+rungs-over Equal e = refl
+rungs-over Band e = refl
+rungs-over Bxor e = refl
+rungs-over Bor e = refl
+rungs-over Land e = refl
+rungs-over Lor e = refl
+rungs-over Cond e = refl
+rungs-over Assign e = refl
+rungs-over _ e = absurd (false≢true e)
+
+under-rungs : (n : ℕ) (r p : Production) → Under n r p → rungs r + n ≡ rungs p
+under-rungs zero r p under = let e = ap rungs under in omega (arith, e)
+under-rungs (suc n) r p under = omega (arith, rungs-over r under.0, under-rungs n (over r) p under.1)
+
+-- the nearest specifiers are again those of before
+abbrev with_near : State → State → State
+with_near s s1 = record s1 { near = s.near }
+
+near-class : (std : Dialect) (s s1 : State) → class_at (grammar std) (with_near s s1) s1.at ≡ class_at (grammar std) s1 s1.at
+unfolding class_at
+near-class std s s1 = refl
+
+-- the same one step out
+left-once : (std : Dialect) (depth : ℕ) (n : ℕ) (r p : Production) (s s1 : State) (first : Node) → Under (suc n) r p
+    → rungs p < rung (class_at (grammar std) s1 s1.at) → may (grammar std) own (part Cast) s ≡ true
+    → ReadsNode (Ok first) s s1 (whole (grammar std) depth (produce r))
+    → ReadsNode (Ok first) s (with_near s s1) (whole (grammar std) depth (produce (over r)))
+left-once std depth n r p s s1 first under past starts m =
+    let o = is-over r under.0 in
+    let some = under-rungs n (over r) p under.1 in
+    let N : Production → Type 0 = λ q. ReadsNode (Ok first) s s1 (whole (grammar std) depth (produce q)) in
+    let off = goes-past std (over r) s1 o.binary (omega (arith, past, some)) in
+    over-left std depth (over r) s s1 (with_near s s1) first o.binary starts (subst N (sym o.operand) m) off refl
+
+-- the node of an operand, where no operator of the production or of one under it follows
+left-under : (std : Dialect) (depth : ℕ) (n : ℕ) (r p : Production) (s s1 : State) (first : Node) → Under (suc n) r p
+    → rungs p < rung (class_at (grammar std) s1 s1.at) → may (grammar std) own (part Cast) s ≡ true
+    → ReadsNode (Ok first) s s1 (whole (grammar std) depth (produce r))
+    → ReadsNode (Ok first) s (with_near s s1) (whole (grammar std) depth (produce p))
+left-under std depth zero r p s s1 first under past starts m =
+    let N : Production → Type 0 = λ q. ReadsNode (Ok first) s (with_near s s1) (whole (grammar std) depth (produce q)) in
+    subst N under.1 (left-once std depth zero r p s s1 first under past starts m)
+left-under std depth (suc n) r p s s1 first under past starts m =
+    let same = ap rung (near-class std s s1) in
+    left-under std depth n (over r) p s (with_near s s1) first under.1 (omega (arith, past, same)) starts
+    (left-once std depth (suc n) r p s s1 first under past starts m)
+
+pub under-left : (std : Dialect) (depth : ℕ) (n : ℕ) (r p : Production) (s s1 new : State) (first : Node) → 0 < n → Under n r p
+    → nat_lt (rungs p) (rung (class_at (grammar std) s1 s1.at)) ≡ true → may (grammar std) own (part Cast) s ≡ true
+    → ReadsNode (Ok first) s s1 (whole (grammar std) depth (produce r)) → new ≡ record s1 { near = s.near }
+    → ReadsNode (Ok first) s new (whole (grammar std) depth (produce p))
+under-left std depth zero r p s s1 new first some under past starts m near = absurd (omega (arith, some))
+under-left std depth (suc n) r p s s1 new first some under past starts m near =
+    let N : State → Type 0 = λ x. ReadsNode (Ok first) s x (whole (grammar std) depth (produce p)) in
+    subst N (sym near) (left-under std depth n r p s s1 first under (ltb-true (rungs p) (rung (class_at (grammar std) s1 s1.at)) past) starts m)

@@ -5,7 +5,7 @@ use Rattle.c99_grammar.specs.declared.dialects.Dialect.TheVariants.{Iso, Gnu}
 use Rattle.c99_tree.specs.declared.production.Production.{Production}
 use Rattle.c99_tree.specs.declared.production.Production.TheVariants.{Expr, Assign, Asgop, Cond, Lor, Land, Bor, Bxor, Band, Equal, Relate, Shift, Add, Mul, Cast}
 use Rattle.c99_grammar.specs.declared.classes.Class.{Class}
-use Rattle.c99_grammar.specs.declared.classes.Class.TheVariants.{Comma, Question, Colon, BarBar, AmpAmp, Bar, Caret, Amp, EqEq, BangEq, Less, Greater, LessEq, GreaterEq, ShiftLeft, ShiftRight, Plus, Minus, Star, Slash, Percent}
+use Rattle.c99_grammar.specs.declared.classes.Class.TheVariants.{Comma, Question, Colon, BarBar, AmpAmp, Bar, Caret, Amp, EqEq, BangEq, Less, Greater, LessEq, GreaterEq, ShiftLeft, ShiftRight, Plus, Minus, Star, Slash, Percent, Eq, StarEq, SlashEq, PercentEq, PlusEq, MinusEq, ShiftLeftEq, ShiftRightEq, AmpEq, CaretEq, BarEq}
 use Rattle.c99_grammar.specs.Items.{Item, one, part, maybe, many, deep, own, tok, ◌·◌}
 
 abbrev pub is_binary : Production → Bool
@@ -72,6 +72,41 @@ rungs Shift = 3
 rungs Add = 2
 rungs Mul = 1
 rungs _ = 0
+
+-- over how many the one stands whose operator the class is; over more than all where it is none
+abbrev pub rung : Class → ℕ
+rung Star = 1
+rung Slash = 1
+rung Percent = 1
+rung Plus = 2
+rung Minus = 2
+rung ShiftLeft = 3
+rung ShiftRight = 3
+rung Less = 4
+rung Greater = 4
+rung LessEq = 4
+rung GreaterEq = 4
+rung EqEq = 5
+rung BangEq = 5
+rung Amp = 6
+rung Caret = 7
+rung Bar = 8
+rung AmpAmp = 9
+rung BarBar = 10
+rung Question = 11
+rung Eq = 12
+rung StarEq = 12
+rung SlashEq = 12
+rung PercentEq = 12
+rung PlusEq = 12
+rung MinusEq = 12
+rung ShiftLeftEq = 12
+rung ShiftRightEq = 12
+rung AmpEq = 12
+rung CaretEq = 12
+rung BarEq = 12
+rung Comma = 13
+rung _ = 14
 
 -- it is the first operand of one
 abbrev pub is_operand : Production → Bool

@@ -2,7 +2,7 @@
 ghost use Rattle.std.specs.Prelude.{◌≡◌, true};
 ghost use Rattle.c99_grammar.specs.Classes.{among};
 ghost use Rattle.c99_grammar.specs.ItemsOf.{item_of};
-ghost use Rattle.c99_read.specs.Operators.{is_assign, is_binary, over, rest_of, rungs, signs};
+ghost use Rattle.c99_read.specs.Operators.{is_assign, is_binary, over, rest_of, rung, rungs, signs};
 ghost use Rattle.c99_tree.specs.declared.production.Production.TheVariants.{Expr, Cond, Lor, Land, Bor, Bxor, Band, Equal, Relate, Shift, Add, Mul};
 
 use c99_grammar::{Class, Dialect, Item, alternatives};
@@ -69,6 +69,30 @@ pub(crate) fn rungs(production: Production) -> u32
         Production::Add => 2,
         Production::Mul => 1,
         _ => 0,
+    }
+}
+
+/// Over how many productions the one stands whose operator this is; over more than all where it is none.
+pub(crate) fn rung_of(class: Class) -> u32
+    ensures { result ≡ rung class }
+{
+    match class {
+        Class::Star | Class::Slash | Class::Percent => 1,
+        Class::Plus | Class::Minus => 2,
+        Class::ShiftLeft | Class::ShiftRight => 3,
+        Class::Less | Class::Greater | Class::LessEq | Class::GreaterEq => 4,
+        Class::EqEq | Class::BangEq => 5,
+        Class::Amp => 6,
+        Class::Caret => 7,
+        Class::Bar => 8,
+        Class::AmpAmp => 9,
+        Class::BarBar => 10,
+        Class::Question => 11,
+        Class::Eq | Class::StarEq | Class::SlashEq | Class::PercentEq => 12,
+        Class::PlusEq | Class::MinusEq | Class::ShiftLeftEq | Class::ShiftRightEq => 12,
+        Class::AmpEq | Class::CaretEq | Class::BarEq => 12,
+        Class::Comma => 13,
+        _ => 14,
     }
 }
 

@@ -2,7 +2,7 @@
 ghost use Rattle.std.specs.Prelude.{◌≡◌, Some};
 ghost use Rattle.c99_tree.specs.Tree.{part_at, leaf};
 ghost use Rattle.c99_read.specs.Children.{declared_by, name_found, is_word_found, is_part_found};
-ghost use Rattle.c99_read.specs.State.{is_declaring, has_name, name_below, last_declared, is_mod, is_main, is_typedef_word, typedef_word_in, is_typedef_part, has_typedef, collapses};
+ghost use Rattle.c99_read.specs.State.{is_declaring, has_name, name_below, last_declared, is_mod, is_main, is_typedef_word, typedef_word_in, is_typedef_part, has_typedef, collapses, is_declarator, is_specs};
 
 use c99_tree::{Child, Label, Production, Tree};
 
@@ -171,4 +171,16 @@ pub(crate) fn collapses(production: Production) -> bool
             | Production::Cast
             | Production::Unary
     )
+}
+
+pub(crate) fn is_declarator(production: Production) -> bool
+    ensures { result ≡ is_declarator production }
+{
+    matches!(production, Production::Declarator)
+}
+
+pub(crate) fn is_specs(production: Production) -> bool
+    ensures { result ≡ is_specs production }
+{
+    matches!(production, Production::Specs)
 }

@@ -2,12 +2,12 @@
 ghost use Rattle.std.specs.Prelude.{◌≡◌, ◌<◌, ◌≤◌, ◌+◌, ◌^◌, length, map, IfOk, IfErr, IfSome, [], ◌∷◌, Some, None, Err, Ok, OnOk, OnErr, IsErr};
 ghost use Rattle.c99_tree.specs.Names.{outermost};
 ghost use Rattle.c99_tree.specs.Tree.{collapsed};
-ghost use Rattle.c99_read.specs.Answer.{Reads, Opens, Wraps, Closes, Starts, with_built, behind};
+ghost use Rattle.c99_read.specs.Answer.{Reads, Opens, Wraps, Closes, Starts, Takes, with_built, behind};
 ghost use Rattle.c99_read.specs.declared.faults.ReadRefusal.TheVariants.{Syntax, Memory as NoMemory};
 ghost use Rattle.c99_grammar.specs.Classes.{among};
 ghost use Rattle.c99_grammar.specs.Items.{scope, end, declare, name, keep, again};
 ghost use Rattle.c99_read.specs.Reading.{take_one, at_end, enter, syntax};
-ghost use Rattle.c99_read.specs.State.{class_at, acted, is_declarator, is_specs, names_opened, names_closed, nearest, finished, spelled_scopes, with_scope_ended, with_declared, last_identifier, no_names};
+ghost use Rattle.c99_read.specs.State.{class_at, acted, names_opened, names_closed, nearest, finished, spelled_scopes, with_scope_ended, with_declared, last_identifier, no_names};
 ghost use Rattle.c99_grammar.specs.TokenClasses.{base_class};
 ghost use Rattle.c99_grammar.specs.Standard.{grammar};
 ghost use Rattle.c99_read.specs.Kept.{Reading};
@@ -19,7 +19,7 @@ use crate::file_names::FileNames;
 use crate::identifiers::last_identifier;
 use crate::names::NameTable;
 use crate::open_node::OpenNode;
-use crate::parts::collapses;
+use crate::parts::{collapses, is_declarator, is_specs};
 use c99_grammar::{Class, Dialect, base_class, is_among};
 use c99_tree::{Label, Production, Tree, Visible};
 use cs_base::{Memory, Tok};
@@ -316,17 +316,26 @@ impl<'a> Reader<'a> {
         }
     }
 
-    /// A node is opened. What was open before is handed out, for `close`.
+    /// What is put in place of what is open, before a node is opened.
+    pub(crate) fn outer(&self) -> Outer {
+        Outer {
+            built: OpenNode::new(self.alloc, UNIT, 0),
+            near: self.near,
+        }
+    }
+
+    /// A node is opened. What was open before is put there, for `close`: so it lies in one place as long as the node is open.
     #[inline(never)]
     pub(crate) fn open(
         &mut self,
         production: Production,
         alternative: u8,
+        outer: &mut Outer,
         dialect: Dialect,
-    ) -> Result<Outer, ReadRefusal>
+    ) -> Read
         requires by { self.old.dialect ≡ dialect }
         ensures by { self.new.dialect ≡ dialect }
-        ensures answer { Opens result self.old.state self.new.state production alternative }
+        ensures answer { Opens result outer.new self.old.state self.new.state production alternative }
     {
         open_names(&mut self.names, production)?;
         let label = Label {
@@ -334,10 +343,9 @@ impl<'a> Reader<'a> {
             alternative,
         };
         let node = OpenNode::new(self.alloc, label, self.at as u32);
-        Ok(Outer {
-            built: mem::replace(&mut self.built, node),
-            near: self.near,
-        })
+        outer.built = mem::replace(&mut self.built, node);
+        outer.near = self.near;
+        Ok(())
     }
 
     /// What a node that begins here begins with.
@@ -360,18 +368,20 @@ impl<'a> Reader<'a> {
         self.near = begun.near;
     }
 
-    /// A node that began there is opened, with its first child. What was open before is handed out, for `close`.
+    /// A node that began there is opened, with its first child. What was open before is put there, for `close`.
+    #[inline(never)]
     pub(crate) fn wrap(
         &mut self,
         production: Production,
         alternative: u8,
         begun: Begun,
         first: Tree,
+        outer: &mut Outer,
         dialect: Dialect,
-    ) -> Result<Outer, ReadRefusal>
+    ) -> Read
         requires by { self.old.dialect ≡ dialect }
         ensures by { self.new.dialect ≡ dialect }
-        ensures answer { Wraps result self.old.state self.new.state (record { production = production; alternative = alternative }) begun first }
+        ensures answer { Wraps result outer.new self.old.state self.new.state (record { production = production; alternative = alternative }) begun first }
     {
         let label = Label {
             production,
@@ -379,27 +389,57 @@ impl<'a> Reader<'a> {
         };
         let mut node = OpenNode::new(self.alloc, label, begun.at);
         node.push_node(first)?;
-        Ok(Outer {
-            built: mem::replace(&mut self.built, node),
-            near: begun.near,
-        })
+        outer.built = mem::replace(&mut self.built, node);
+        outer.near = begun.near;
+        Ok(())
     }
 
     /// The open node is closed and given, and what was open before is open again.
+    #[inline(never)]
     pub(crate) fn close(
         &mut self,
-        outer: Outer,
+        outer: &mut Outer,
         production: Production,
         dialect: Dialect,
     ) -> Result<Tree, ReadRefusal>
         requires by { self.old.dialect ≡ dialect }
         ensures by { self.new.dialect ≡ dialect }
-        ensures answer { Closes result self.old.state self.new.state production outer }
+        ensures answer { Closes result self.old.state self.new.state production outer.old }
     {
         close_names(&mut self.names, production);
         self.near = nearest(production, &self.built, outer.near);
-        let node = mem::replace(&mut self.built, outer.built);
+        let around = mem::replace(&mut outer.built, OpenNode::new(self.alloc, UNIT, 0));
+        let node = mem::replace(&mut self.built, around);
         let node = finished(production, node)?;
+        Ok(node)
+    }
+
+    /// The node of a production that is a token of one of the classes.
+    #[inline(never)]
+    pub(crate) fn single(
+        &mut self,
+        production: Production,
+        alternative: u8,
+        classes: &[Class],
+        dialect: Dialect,
+    ) -> Result<Tree, ReadRefusal>
+        requires by { self.old.dialect ≡ dialect }
+        ensures by { self.new.dialect ≡ dialect }
+        ensures answer { Takes result self.old.state self.new.state (grammar dialect) (record { production = production; alternative = alternative }) classes.now }
+    {
+        if self.at >= self.toks.len() {
+            return self.no_node();
+        }
+        if !self.is(classes, dialect) {
+            return self.no_node();
+        }
+        let label = Label {
+            production,
+            alternative,
+        };
+        let mut node = Tree::new(self.alloc, label, self.at as u32);
+        node.push_token(self.at as u32)?;
+        self.move_on(dialect);
         Ok(node)
     }
 
@@ -570,18 +610,6 @@ fn close_names(names: &mut NameTable, production: Production)
     if is_declarator(production) {
         names.close_head();
     }
-}
-
-fn is_declarator(production: Production) -> bool
-    ensures { result ≡ is_declarator production }
-{
-    matches!(production, Production::Declarator)
-}
-
-fn is_specs(production: Production) -> bool
-    ensures { result ≡ is_specs production }
-{
-    matches!(production, Production::Specs)
 }
 
 // Whether the nearest specifiers have the word `typedef`, once the node is closed.

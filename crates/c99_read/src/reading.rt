@@ -1,5 +1,5 @@
 // Reading by the table: a production, the items of an alternative, and repetitions.
-ghost use Rattle.std.specs.Prelude.{ℕ, ◌≡◌, ◌≤◌, ◌<◌, ◌+◌, true, Ok, IfOk, OnOk};
+ghost use Rattle.std.specs.Prelude.{ℕ, ◌≡◌, ◌≤◌, ◌<◌, ◌+◌, nat_lt, true, Ok, IfOk, OnOk};
 ghost use Rattle.std.specs.Option.{option_map};
 ghost use Rattle.c99_read.specs.Answer.{IsBegun, Reads, ReadsNode};
 ghost use Rattle.c99_grammar.specs.Items.{choice, deep, many, maybe, own, part, ◌·◌};
@@ -7,11 +7,11 @@ ghost use Rattle.c99_grammar.specs.ItemsOf.{action_of, item_of, test_of};
 ghost use Rattle.c99_read.specs.Choosing.{choice_of, chosen};
 ghost use Rattle.c99_read.specs.Leading.{CanBeLeftOut};
 ghost use Rattle.c99_read.specs.Levels.{height, level_of, size, Met};
-ghost use Rattle.c99_read.specs.Operators.{is_binary, operand_of, rest_of};
+ghost use Rattle.c99_read.specs.Operators.{is_binary, operand_of, rest_of, rung, rungs};
 ghost use Rattle.c99_read.specs.Reading.{may, step, alternative, whole, produce, repeat};
 ghost use Rattle.c99_read.specs.Sound.{is_met};
 ghost use Rattle.c99_grammar.specs.Standard.{grammar};
-ghost use Rattle.c99_read.specs.State.{State, acted, collapses};
+ghost use Rattle.c99_read.specs.State.{State, acted, class_at, collapses};
 ghost use Rattle.c99_read.specs.Fronts.{external, externals, behind_children, IsSameNode};
 ghost use Rattle.c99_tree.specs.Tree.{Forest};
 ghost use Rattle.c99_tree.specs.declared.production.Production.TheVariants.{Cast, External};
@@ -19,7 +19,7 @@ ghost use Rattle.c99_tree.specs.declared.production.Production.TheVariants.{Cast
 use crate::chosen::Chosen;
 use crate::faults::ReadRefusal;
 use crate::leads::{Lead, lead_of};
-use crate::operators::{is_assign, is_binary, is_sign, over, rest_of, rungs};
+use crate::operators::{is_assign, is_binary, is_sign, over, rest_of, rung_of, rungs};
 use crate::reader::{Begun, Read, Reader};
 use c99_grammar::{Action, Dialect, Item, Test, alternatives, holds, production_starts, starts};
 use c99_tree::{Production, Tree};
@@ -87,6 +87,11 @@ impl<'a> Reader<'a> {
         let mut read = Production::Cast;
         let mut left = rungs(production);
         'rungs: while left > 0 {
+            // Mostly no operator follows, and nothing is joined any more.
+            if self.is_past(production, dialect) {
+                self.end(begun, dialect);
+                return Ok(node);
+            }
             read = over(read);
             node = self.over_first(depth, read, begun, node, dialect)?;
             left -= 1;
@@ -145,9 +150,10 @@ impl<'a> Reader<'a> {
             → ReadsNode (Ok first) s self.old.state (whole (grammar dialect) depth (produce below))
             → ReadsNode result s self.new.state (alternative (grammar dialect) (whole (grammar dialect)) depth production number (part below · item_of rest.now)) }
     {
-        let outer = self.wrap(production, number, begun, first, dialect)?;
+        let mut outer = self.outer();
+        self.wrap(production, number, begun, first, &mut outer, dialect)?;
         self.item(depth, rest, dialect)?;
-        self.close(outer, production, dialect)
+        self.close(&mut outer, production, dialect)
     }
 
     // An operator of the production is next.
@@ -161,6 +167,14 @@ impl<'a> Reader<'a> {
         } else {
             is_sign(production, self.class_here(dialect))
         }
+    }
+
+    // No operator of the production, or of one that stands under it, is next.
+    fn is_past(&self, production: Production, dialect: Dialect) -> bool
+        requires by { self.now.dialect ≡ dialect }
+        ensures { result ≡ nat_lt (rungs production) (rung (class_at (grammar dialect) self.now.state self.now.state.at)) }
+    {
+        rungs(production) < rung_of(self.class_here(dialect))
     }
 
     // The first alternative that may be read here.
@@ -243,6 +257,7 @@ impl<'a> Reader<'a> {
         match lead_of(production, body) {
             Lead::Alone(first) => self.alone(depth, first, dialect),
             Lead::Before(first, rest) => self.led(depth, production, number, first, rest, dialect),
+            Lead::Single(classes) => self.single(production, number, classes, dialect),
             Lead::Otherwise => self.opened(depth, production, number, body, dialect),
         }
     }
@@ -316,9 +331,10 @@ impl<'a> Reader<'a> {
         ensures by { self.new.dialect ≡ dialect }
         ensures answer { ReadsNode result self.old.state self.new.state (alternative (grammar dialect) (whole (grammar dialect)) depth production number (item_of body.now)) }
     {
-        let outer = self.open(production, number, dialect)?;
+        let mut outer = self.outer();
+        self.open(production, number, &mut outer, dialect)?;
         self.item(depth, body, dialect)?;
-        self.close(outer, production, dialect)
+        self.close(&mut outer, production, dialect)
     }
 
     #[cycle(reading)]

@@ -15,8 +15,8 @@ use Rattle.c99_grammar.specs.ItemsOf.{item_of, test_of}
 use Rattle.c99_read.specs.Choosing.{choice_of}
 use Rattle.c99_read.proofs.RowLemmas.{row-ready}
 use Rattle.c99_read.proofs.TurnLemmas.{many-turn, many-falls}
-use Rattle.c99_read.proofs.LedLemmas.{node-chosen, node-none, node-pushed, node-stopped, node-passed, read-passed, opened-ends, opened-stopped, led-left, led-stopped, led-ends, led-stopped-behind, alone-left, alone-stopped}
-use Rattle.c99_read.proofs.OperatorLemmas.{Under, binary-none, binary-ready, binary-read, cast-below, cast-under, left-out, over-left, under-end, under-next, under-stops}
+use Rattle.c99_read.proofs.LedLemmas.{node-chosen, node-none, node-pushed, node-stopped, node-passed, read-passed, opened-ends, opened-stopped, led-left, led-stopped, led-ends, led-stopped-behind, alone-left, alone-stopped, single-read}
+use Rattle.c99_read.proofs.OperatorLemmas.{Under, binary-none, binary-ready, binary-read, cast-below, cast-under, left-out, over-left, under-end, under-left, under-next, under-stops}
 use Rattle.c99_read.specs.Operators.{is_binary, operand_of, rungs}
 use Rattle.c99_read.proofs.reader.Reader.+reading.Goals as goal
 
@@ -88,6 +88,13 @@ binary-rungs-preserved t c =
       subst U (sym c.over-read.ensures) next.under,
       c.in_ok-node-2.ensures.answer s begun c.requires.starts (subst N (sym (ap operand_of c.over-read.ensures ∙ next.step.operand)) c.rungs.invariant.2),
     )
+
+pub binary-returns-then-is_past-clause-answer : goal.binary-returns-then-is_past-clause-answer
+binary-returns-then-is_past-clause-answer t c =
+    let s1 = c.rungs.self.state in
+    under-left c.args.dialect c.args.depth c.rungs.left c.rungs.read c.args.production c.args.self.now.state s1 c.end.new.self.state c.rungs.node c.rungs-test.true
+    c.rungs.invariant.1 (sym c.is_past.ensures ∙ c.if-is_past.true) c.requires.starts c.rungs.invariant.2
+    (c.end.ensures.answer ∙ ap (λ near. record s1 { near = near }) c.begun-begun.ensures.near)
 
 pub binary-returns-clause-answer : goal.binary-returns-clause-answer
 binary-returns-clause-answer t c =
@@ -161,7 +168,7 @@ joined-item-requires t c =
 pub joined-returns-clause-answer : goal.joined-returns-clause-answer
 joined-returns-clause-answer t c = λ s below begun m.
     led-ends (grammar c.args.dialect) c.args.depth c.args.production c.args.number below (item_of c.args.rest.now) c.requires.optional s c.args.self.now.state
-    c.wrap.new.self.state c.item.new.self.state c.close.new.self.state c.args.first c.close.result c.in_ok-outer.outer c.args.begun begun m c.in_ok-outer.ensures.answer
+    c.wrap.new.self.state c.item.new.self.state c.close.new.self.state c.args.first c.close.result c.wrap.new.outer c.args.begun begun m c.in_ok-wrap.ensures.answer
     c.in_ok-item.ensures.answer c.close.ensures.answer
 
 pub joined-returns-in_err-item-clause-answer : goal.joined-returns-in_err-item-clause-answer
@@ -173,7 +180,7 @@ joined-returns-in_err-item-clause-answer t c = λ s below begun m.
     node-passed e c.from_residual-in_err-item.result s c.item.new.self.state (alternative g (whole g) c.args.depth p c.args.number (part below · rest))
     c.from_residual-in_err-item.ensures.1
     (led-stopped-behind g c.args.depth p c.args.number below rest c.requires.optional s c.args.self.now.state c.wrap.new.self.state c.item.new.self.state
-    c.args.first c.in_ok-outer.outer c.args.begun e begun m c.in_ok-outer.ensures.answer c.in_err-item.ensures.answer)
+    c.args.first c.wrap.new.outer c.args.begun e begun m c.in_ok-wrap.ensures.answer c.in_err-item.ensures.answer)
 
 -- ---- an alternative
 
@@ -210,6 +217,13 @@ alternative-returns-in-Before-clause-answer t c =
     let g = grammar c.args.dialect in
     let P : Item → Type 0 = λ i. ReadsNode c.led.result c.args.self.now.state c.led.new.self.state (alternative g (whole g) c.args.depth c.args.production c.args.number i) in
     subst P (sym c.in-Before.ensures.1) c.led.ensures.answer
+
+pub alternative-returns-in-Single-clause-answer : goal.alternative-returns-in-Single-clause-answer
+alternative-returns-in-Single-clause-answer t c =
+    let g = grammar c.args.dialect in
+    let P : Item → Type 0 = λ i. ReadsNode c.single.result c.args.self.now.state c.single.new.self.state (alternative g (whole g) c.args.depth c.args.production c.args.number i) in
+    subst P (sym c.in-Single.ensures.1)
+    (single-read g c.args.depth c.args.production c.args.number c.in-Single.classes.now c.args.self.now.state c.single.result c.single.new.self.state c.in-Single.ensures.0 c.single.ensures.answer)
 
 pub alone-returns-clause-answer : goal.alone-returns-clause-answer
 alone-returns-clause-answer t c = λ p n collapsing.
@@ -256,7 +270,7 @@ led-returns-in_err-node-clause-answer t c =
 pub opened-returns-clause-answer : goal.opened-returns-clause-answer
 opened-returns-clause-answer t c =
     opened-ends (grammar c.args.dialect) c.args.depth c.args.production c.args.number (item_of c.args.body.now) c.args.self.now.state c.open.new.self.state
-    c.item.new.self.state c.close.new.self.state c.in_ok-outer.outer c.close.result c.in_ok-outer.ensures.answer c.in_ok-item.ensures.answer c.close.ensures.answer
+    c.item.new.self.state c.close.new.self.state c.open.new.outer c.close.result c.in_ok-open.ensures.answer c.in_ok-item.ensures.answer c.close.ensures.answer
 
 pub opened-returns-in_err-item-clause-answer : goal.opened-returns-in_err-item-clause-answer
 opened-returns-in_err-item-clause-answer t c =
@@ -265,7 +279,7 @@ opened-returns-in_err-item-clause-answer t c =
     node-passed e c.from_residual-in_err-item.result c.args.self.now.state c.item.new.self.state
     (alternative g (whole g) c.args.depth c.args.production c.args.number (item_of c.args.body.now)) c.from_residual-in_err-item.ensures.1
     (opened-stopped g c.args.depth c.args.production c.args.number (item_of c.args.body.now) c.args.self.now.state c.open.new.self.state c.item.new.self.state
-    c.in_ok-outer.outer e c.in_ok-outer.ensures.answer c.in_err-item.ensures.answer)
+    c.open.new.outer e c.in_ok-open.ensures.answer c.in_err-item.ensures.answer)
 
 -- ---- repetitions
 
