@@ -1,8 +1,10 @@
 -- Steps over the bytes of a file, as its logical text takes them.
-use Rattle.std.proofs.Common.{◌≡◌, ℕ, zero, suc, ◌+◌, ◌-◌, ◌<◌, ◌≤◌, ◌≢◌, false, ◌==◌, List, [], ◌∷◌, ◌++◌, append_assoc, length, get_or, take, drop, inl, inr, refl, sym, ap, ◌∙◌, arith, add-zero}
-use Rattle.std.proofs.lemmas.Bool.{cases_Bool, ne_eqb}
+use Rattle.std.proofs.Common.{◌≡◌, ℕ, zero, suc, ◌+◌, ◌-◌, ◌<◌, ◌≤◌, ◌≢◌, Bool, true, false, not, ◌||◌, ◌==◌, List, [], ◌∷◌, ◌++◌, append_assoc, length, get_or, take, drop, inl, inr, refl, sym, ap, ◌∙◌, arith, add-zero}
+use Rattle.std.specs.List.{list_all}
+use Rattle.std.proofs.lemmas.Bool.{cases_Bool, ne_eqb, false≢true, and_parts}
 use Rattle.std.proofs.lemmas.List.{length-map, length-drop, drop-drop, drop-map, take_all}
 use Rattle.lexer.specs.Logical.{Character, character, gone_length, logical_from, spelling}
+use Rattle.lexer.specs.Characters.{backslash, carriage_return, cannot_go}
 use Rattle.lexer.specs.Walk.{spelled, Passes, IsFirst}
 use Rattle.lexer.proofs.GoneLemmas.{logical_from-empty as logical_from-nil}
 
@@ -195,3 +197,22 @@ Passes-step-slice bs (c ∷ cs) g some is goes within p =
     let first : gone_length c cs ≡ g = sym (rw (after-first c cs) at is) in
     let bound : g ≤ length cs + 1 = rw (after-first c cs) at within in
     Passes-step bs c g cs first goes (omega arith) p
+
+-- ---- Bytes that cannot go
+
+cannot-go : (c : ℕ) (cs : List ℕ) → cannot_go c ≡ true → gone_length c cs ≡ 0
+unfolding gone_length
+cannot-go c cs here = by (c == backslash) (c == carriage_return) refl refl here
+  where
+    by : (x y : Bool) → (c == backslash) ≡ x → (c == carriage_return) ≡ y → not (x || y) ≡ true → gone_length c cs ≡ 0
+    by true y is also here = absurd (false≢true here)
+    by false true is also here = absurd (false≢true here)
+    by false false is also here = rw (is, also) refl
+
+pub plain-spelled : (n : ℕ) (bs : List ℕ) → n ≤ length bs → list_all cannot_go (take n bs) ≡ true → take n bs ≡ take n (spelled bs)
+plain-spelled zero bs within all = refl
+plain-spelled (suc n) [] within all = absurd (omega (arith, within))
+plain-spelled (suc n) (c ∷ cs) within all =
+    let both = and_parts (cannot_go c) (list_all cannot_go (take n cs)) all in
+    let first : IsFirst (c ∷ cs) c cs = record { whole = refl; stays = cannot-go c cs both.0 } in
+    ap (λ x. c ∷ x) (plain-spelled n cs (omega (arith, within)) both.1) ∙ ap (take (suc n)) (sym (spelled-first (c ∷ cs) c cs first))

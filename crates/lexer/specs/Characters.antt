@@ -87,6 +87,10 @@ is_exponent_letter c = c == small_e || c == capital_e || c == small_p || c == ca
 abbrev pub is_quote : ℕ → Bool
 is_quote c = c == single_quote || c == double_quote
 
+-- phase 2 leaves this character, whatever stands behind it: it is no backslash and no carriage return
+abbrev pub cannot_go : ℕ → Bool
+cannot_go c = not (c == backslash || c == carriage_return)
+
 -- the line goes on with this character
 abbrev pub is_on_line : ℕ → Bool
 is_on_line c = not (c == line_feed)

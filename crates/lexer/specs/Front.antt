@@ -1,5 +1,5 @@
 -- The first token of a text, read in one pass.
-use Rattle.std.specs.Prelude.{◌≡◌, ◌≤◌, ℕ, zero, suc, ◌+◌, ◌&&◌, ◌||◌, ◌==◌, nat_le, Bool, true, false, if◌then◌else◌, List, [], ◌∷◌, length, take, Option, Some, None, unwrap_or}
+use Rattle.std.specs.Prelude.{◌≡◌, ◌≤◌, ℕ, zero, suc, ◌+◌, not, ◌&&◌, ◌||◌, ◌==◌, nat_le, Bool, true, false, if◌then◌else◌, List, [], ◌∷◌, length, take, Option, Some, None, unwrap_or}
 use Rattle.std.specs.List.{prefix_len, list_any}
 use Rattle.std.specs.Option.{option_map}
 use Rattle.cs_base.specs.declared.tokens.Kind.{Kind}
@@ -71,6 +71,21 @@ begins_with_one words text = list_any (λ w. begins_with w text) words
 abbrev pub is_lone_sign : ℕ → Bool
 is_lone_sign c =
     c == 40 || c == 41 || c == 91 || c == 93 || c == 123 || c == 125 || c == 44 || c == 59 || c == 126 || c == 63
+
+-- the other punctuators of one character (6.4.6): `.`, `&`, `*`, `+`, `-`, `!`, `/`, `%`, `<`, `>`, `^`, `|`, `:`, `=` and `#`
+abbrev pub is_open_sign : ℕ → Bool
+is_open_sign c =
+    c == 46 || c == 38 || c == 42 || c == 43 || c == 45 || c == 33 || c == 47 || c == 37 || c == 60 || c == 62 || c == 94 || c == 124 || c == 58
+    || c == 61 || c == 35
+
+-- the second characters of longer ones: `=`, `>`, `+`, `-`, `<`, `&`, `|`, `#`, `:`, `%` and `.`
+abbrev pub is_second_sign : ℕ → Bool
+is_second_sign c = c == 61 || c == 62 || c == 43 || c == 45 || c == 60 || c == 38 || c == 124 || c == 35 || c == 58 || c == 37 || c == 46
+
+-- another character is next, and is none of these
+abbrev pub is_alone_before : List ℕ → Bool
+is_alone_before [] = false
+is_alone_before (c ∷ cs) = not (is_second_sign c)
 
 -- how many characters the longest punctuator in front has, and 0 where there is none
 unfoldable pub punctuator_length : List ℕ → ℕ

@@ -1,11 +1,11 @@
 // The first token of a logical text, read in one pass (ISO/IEC 9899:1999, 6.4).
-ghost use Rattle.std.specs.Prelude.{◌≡◌, ◌≤◌, ◌∷◌, [], false, length, IfSome, true, None};
+ghost use Rattle.std.specs.Prelude.{◌≡◌, ◌≤◌, ◌&&◌, ◌||◌, ◌∷◌, [], false, length, IfSome, true, None};
 ghost use Rattle.std.specs.List.{prefix_len, list_all, list_any};
 ghost use Rattle.lexer.specs.Spelling.{is_identifier_text, may_follow as follows, begins_number as number_begins, header_close as header_close_of, punctuators_of_one, punctuators_of_two, punctuators_of_three, punctuators_of_four};
 ghost use Rattle.lexer.specs.Characters.{is_word as word, is_quote as quote_is, begins as begins_so};
 ghost use Rattle.lexer.specs.Lone.{IsLone};
 ghost use Rattle.lexer.specs.Walk.{spelled, IsFirst};
-ghost use Rattle.lexer.specs.Front.{front_of, plain_front as plain_front_of, count_following as following, closing as closing_of, header_closing as header_closing_of, punctuator_length as punctuator_length_of, punctuator_front as punctuator_front_of, begins_with as begins_with_word, begins_with_one as begins_with_one_of, quoted as quoted_of, quoted_kind as kind_of_quoted, quoted_front as quoted_front_of, is_lone_sign as lone_sign, wide_front as wide_front_of, header_length as header_length_of, IsFront};
+ghost use Rattle.lexer.specs.Front.{front_of, plain_front as plain_front_of, count_following as following, closing as closing_of, header_closing as header_closing_of, punctuator_length as punctuator_length_of, punctuator_front as punctuator_front_of, begins_with as begins_with_word, begins_with_one as begins_with_one_of, is_open_sign as open_sign, is_second_sign as second_sign, is_alone_before as alone_before, quoted as quoted_of, quoted_kind as kind_of_quoted, quoted_front as quoted_front_of, is_lone_sign as lone_sign, wide_front as wide_front_of, header_length as header_length_of, IsFront};
 
 use crate::characters::{is_exponent_letter, is_nondigit, is_sign, is_word};
 use crate::logical::{begins_with, next};
@@ -209,12 +209,68 @@ fn is_lone_sign(c: u8) -> bool
         || c == b'?'
 }
 
-// The text begins with such a punctuator. Most punctuators of a file are such, and need no search among all.
+// The character is another punctuator of one character.
+fn is_open_sign(c: u8) -> bool
+    ensures { result ≡ open_sign c }
+{
+    c == b'.'
+        || c == b'&'
+        || c == b'*'
+        || c == b'+'
+        || c == b'-'
+        || c == b'!'
+        || c == b'/'
+        || c == b'%'
+        || c == b'<'
+        || c == b'>'
+        || c == b'^'
+        || c == b'|'
+        || c == b':'
+        || c == b'='
+        || c == b'#'
+}
+
+// A longer punctuator has the character second.
+fn is_second_sign(c: u8) -> bool
+    ensures { result ≡ second_sign c }
+{
+    c == b'='
+        || c == b'>'
+        || c == b'+'
+        || c == b'-'
+        || c == b'<'
+        || c == b'&'
+        || c == b'|'
+        || c == b'#'
+        || c == b':'
+        || c == b'%'
+        || c == b'.'
+}
+
+// Another character is next, and no longer punctuator has it second.
+fn is_alone_before(after: &[u8]) -> bool
+    ensures { result ≡ alone_before (spelled after.now) }
+{
+    match next(after) {
+        Some((c, _)) => !is_second_sign(c),
+        None => false,
+    }
+}
+
+// The character is a punctuator, and no longer one begins with it and what follows.
+fn is_alone(c: u8, after: &[u8]) -> bool
+    ensures { result ≡ (lone_sign c || (open_sign c && alone_before (spelled after.now))) }
+{
+    is_lone_sign(c) || (is_open_sign(c) && is_alone_before(after))
+}
+
+// The text begins with a punctuator of one character, and with no longer one. Most punctuators of a file are such, and
+// need no search among all.
 fn begins_with_lone_sign(text: &[u8]) -> bool
     ensures { result ≡ true → punctuator_length_of (spelled text.now) ≡ 1 }
 {
     match next(text) {
-        Some((c, _)) => is_lone_sign(c),
+        Some((c, after)) => is_alone(c, after),
         None => false,
     }
 }

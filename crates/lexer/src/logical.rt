@@ -1,10 +1,12 @@
 // Logical characters: the bytes that translation phase 2 leaves (ISO/IEC 9899:1999, 5.1.1.2).
 ghost use Rattle.std.specs.Prelude.{◌≡◌, ◌≤◌, ◌<◌, ◌+◌, ◌∷◌, [], ℕ, MatchOption, IfOk, IfSome, length, take};
-ghost use Rattle.lexer.specs.Characters.{begins as begins_so};
+ghost use Rattle.std.specs.List.{list_all};
+ghost use Rattle.lexer.specs.Characters.{begins as begins_so, cannot_go};
 ghost use Rattle.lexer.specs.Logical.{logical_from, new_line_length as new_line, gone_length as gone};
 ghost use Rattle.lexer.specs.Walk.{spelled, Passes, IsFirst};
 ghost use Rattle.lexer.specs.Front.{begins_with as begins_with_word};
 
+use crate::characters::cannot_go;
 use cs_base::Memory;
 use std::alloc::Global;
 
@@ -92,6 +94,23 @@ pub(crate) fn behind(bytes: &[u8], n: usize) -> &[u8]
         }
     }
     rest
+}
+
+/// The first n bytes, where none of them can go: so they are the first n logical characters.
+pub(crate) fn plain(bytes: &[u8], n: usize) -> Option<&[u8]>
+    ensures { IfSome result (λ text. text.now ≡ take n (spelled bytes.now)) }
+{
+    if n > bytes.len() {
+        return None;
+    }
+    let (text, _) = bytes.split_at(n);
+    if all_stay(text) { Some(text) } else { None }
+}
+
+fn all_stay(text: &[u8]) -> bool
+    ensures { result ≡ list_all cannot_go text.now }
+{
+    text.iter().all(|c| cannot_go(*c))
 }
 
 /// The first n logical characters, without offsets.

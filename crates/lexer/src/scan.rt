@@ -9,7 +9,7 @@ ghost use Rattle.lexer.specs.Walk.{spelled};
 ghost use Rattle.lexer.specs.declared.refusal.LexRefusal.TheVariants as refusal;
 
 use crate::line_table::place_in;
-use crate::logical::{behind, first_character, spelling};
+use crate::logical::{behind, first_character, plain, spelling};
 use crate::lone::{Lone, searched};
 use crate::pieces::{LineFront, Piece, first_piece};
 use crate::refusal::LexRefusal;
@@ -44,6 +44,30 @@ fn file_token(
         start,
     };
     Tok::with_spans(alloc, kind, text, &[span], gap, start, line, true)
+}
+
+// The same, where the text is the first n characters of these bytes.
+fn token_at(
+    alloc: Global,
+    file: u32,
+    line: u32,
+    gap: bool,
+    at: u32,
+    kind: Kind,
+    here: &[u8],
+    n: usize,
+) -> Result<Tok, Memory>
+    requires { at + length here.now < 2 ^ 32 }
+    ensures { IfOk result (λ t. t ≡ token_of file line gap at kind (take n (spelled here.now))) }
+{
+    match plain(here, n) {
+        // Mostly no splice stands in a token, and the bytes need no copy.
+        Some(text) => file_token(alloc, file, line, gap, at, kind, text),
+        None => {
+            let text = spelling(alloc, here, n)?;
+            file_token(alloc, file, line, gap, at, kind, text.as_slice())
+        }
+    }
 }
 
 // The line of the bytes at `to`, where those at `from`, which they end, stand on this line.
@@ -85,8 +109,7 @@ fn add_piece(
 {
     match piece {
         Piece::Token(kind, n) => {
-            let text = spelling(alloc, here, n)?;
-            let tok = file_token(alloc, file, line, gap, at, kind, text.as_slice())?;
+            let tok = token_at(alloc, file, line, gap, at, kind, here, n)?;
             toks.push(tok)?;
             firsts.push(front.is_line_start())?;
             Ok(())
