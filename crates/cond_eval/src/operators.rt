@@ -1,5 +1,5 @@
 // The operators of a controlling expression (6.5.3.3, 6.5.5 to 6.5.14).
-ghost use Rattle.std.specs.Prelude.{◌≡◌};
+ghost use Rattle.std.specs.Prelude.{◌≡◌, codes};
 ghost use Rattle.std.specs.Str.{bytes_eq};
 ghost use Rattle.cond_eval.specs.Operators.{level_of, operator_of, sign_of};
 
@@ -79,9 +79,43 @@ fn is_spelled(text: &[u8], spelling: &[u8]) -> bool
     text == spelling
 }
 
-#[tactic(auto, unfolding(crate::specs::Operators::operator_of))]
-/// The binary operator with this spelling.
+fn is_close(text: &[u8]) -> bool
+    ensures { result ≡ bytes_eq text.now (codes ")") }
+{
+    is_spelled(text, b")")
+}
+
+fn is_and(text: &[u8]) -> bool
+    ensures { result ≡ bytes_eq text.now (codes "&&") }
+{
+    is_spelled(text, b"&&")
+}
+
+fn is_or(text: &[u8]) -> bool
+    ensures { result ≡ bytes_eq text.now (codes "||") }
+{
+    is_spelled(text, b"||")
+}
+
+/// The binary operator with this spelling. What mostly stands behind an operand is looked for first.
 pub fn operator_of(text: &[u8]) -> Option<Operator>
+    ensures { result ≡ operator_of text.now }
+{
+    if is_close(text) {
+        return None;
+    }
+    if is_and(text) {
+        return Some(Operator::And);
+    }
+    if is_or(text) {
+        return Some(Operator::Or);
+    }
+    sought_operator(text)
+}
+
+#[tactic(auto, unfolding(crate::specs::Operators::operator_of))]
+// The same, by a search among all.
+fn sought_operator(text: &[u8]) -> Option<Operator>
     ensures { result ≡ operator_of text.now }
 {
     if is_spelled(text, b"*") {
