@@ -141,6 +141,14 @@ told_part t kept part c h =
     let same : record_part part.start (length_at t.labels c) ≡ part = λ i. record { start = part.start; len = h.len i } in
     subst P same (part_is t kept part.start c h.at)
 
+-- the class number of the part of a character
+pub class_found : (t : Table) → IsKept t → (p : Pos) (s : Spot) (len : ℕ) → label t p ≡ Some s → length_at t.labels s.class ≡ len
+    → class_in t (record { start = record { file = p.file; at = p.at - s.offset }; len = len }) ≡ Some s.class
+class_found t kept p s len e same =
+    let first = (part_first t kept p s e).1 in
+    let long : eqb (length_at t.labels s.class) len ≡ true = eq-eqb (length_at t.labels s.class) len same in
+    rw (first, long) refl
+
 part_cases : (t : Table) → IsKept t → (p : Pos) (part : Part) (o : Option Spot) → label t p ≡ o → option_map (part_from t p) (label t p) ≡ Some part → IsPart t part × (holds part p ≡ true)
 part_cases t kept p part None l e = absurd (none-some part (ap (λ v. option_map (part_from t p) v) (sym l) ∙ e))
 part_cases t kept p part (Some s) l e =

@@ -1,5 +1,6 @@
 // The table of classes: added tokens by their places, and the partition of their characters by number.
-ghost use Rattle.std.specs.Prelude.{ℕ, ◌≡◌, ◌+◌, ◌-◌, ◌*◌, ◌^◌, ◌<◌, ◌≤◌, List, [], ◌∷◌, ◌++◌, length, Some, IsSome, slice_get, OnOk, OnErr, IsTrue, MatchBool, ◌⊎◌};
+ghost use Rattle.std.specs.Prelude.{ℕ, ◌≡◌, ◌+◌, ◌-◌, ◌*◌, ◌^◌, ◌<◌, ◌≤◌, List, [], ◌∷◌, ◌++◌, length, Some, IsSome, slice_get, IfSome, OnOk, OnErr, IsTrue, MatchBool, ◌⊎◌};
+ghost use Rattle.std.specs.Option.{option_map};
 ghost use Rattle.eclass_map.specs.ClassTable.{Table, part_of, class_in, members_of, part_with, added_tokens, part_of_file, AddsToken, with_token, IsFree, AreWhole, SameOrLinked, HasParts, AreLinks, IsAdded, relabelled_in, weight_in, parts_in, character_count, label, joined_in, parts_joined};
 ghost use Rattle.eclass_map.specs.Joined.{AreJoined};
 ghost use Rattle.eclass_map.specs.History.{History};
@@ -19,13 +20,20 @@ mod walks;
 
 use crate::file_hints::{add_hints, missing_hints};
 use crate::places::{Places, place_runs};
-use crate::token_list::{Added, count_begun, find, near, near_from, number, settle};
+use crate::token_list::{Added, count_begun, find, find_near, near, near_from, number, settle};
 use crate::wholeness::are_whole;
 use class_labels::Partition;
 use cs_base::{Memory, Part, Pos, Steps, Tok};
 use std::alloc::Global;
 use std::marker::Model;
 use std::sync::ledger::Ledger;
+
+/// A part, and the number of its class.
+#[derive(Clone, Copy)]
+pub struct FoundPart {
+    pub part: Part,
+    pub class: u32,
+}
 
 /// Added tokens, cut into parts; the parts in classes. Contracts see the `Table`.
 #[derive(Drop)]
@@ -146,6 +154,41 @@ impl Classes {
         Part {
             start,
             len: self.labels.length_of(spot.class),
+        }
+    }
+
+    /// The part that holds the character, with its class number. The added token with the place of the guess and those
+    /// shortly behind it are tried first; the guess afterwards is that of the character.
+    pub fn found(&self, pos: Pos, guess: &mut usize) -> Option<FoundPart>
+        ensures part { option_map (λ f. f.part) result ≡ part_of self.now pos }
+        ensures class { IfSome result (λ f. class_in self.now f.part ≡ Some f.class) }
+        ensures parts { HasParts self.now }
+    {
+        let place = near_from(&self.tokens, &self.files, Some(pos), *guess);
+        *guess = place;
+        match find_near(&self.tokens, &self.files, pos, place) {
+            Some(index) => Some(self.found_character(pos, index)),
+            None => None,
+        }
+    }
+
+    // The same of the character of this number.
+    fn found_character(&self, pos: Pos, index: u32) -> FoundPart
+        requires { index_at self.now.tokens pos ≡ Some index }
+        ensures part { part_of self.now pos ≡ Some result.part }
+        ensures class { class_in self.now result.part ≡ Some result.class }
+    {
+        let spot = self.labels.spot_of(index);
+        let start = Pos {
+            file: pos.file,
+            at: pos.at - spot.offset,
+        };
+        FoundPart {
+            part: Part {
+                start,
+                len: self.labels.length_of(spot.class),
+            },
+            class: spot.class,
         }
     }
 

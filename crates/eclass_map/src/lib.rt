@@ -6,7 +6,7 @@
 //! before the next such character, or to its token's end; a class is all parts whose first characters are the
 //! same. Where a part begins inside another, the other is cut, and so is every part of its class. This crate
 //! knows positions and links, and neither why tokens are linked nor what they spell. A character is found by
-//! halving the tokens of its file. `join` and the readers take no memory: `add_token` takes the room for
+//! halving the tokens of its file. Who asks for one after another hands on where the last one stood (`found`). `join` and the readers take no memory: `add_token` takes the room for
 //! every part that its token can be cut into. Of two classes the one with fewer parts gets the other's
 //! number, a tick of `Steps` for each. `is_whole` tells before a link is joined whether the origins of its
 //! tokens are whole added tokens; `join_whole` joins it if so, and `join_to` where that is known of the second.
@@ -23,6 +23,6 @@ mod places;
 mod token_list;
 mod wholeness;
 
-pub use class_table::Classes;
+pub use class_table::{Classes, FoundPart};
 pub use laws::joins_relabel_little;
 pub use token_list::part_holds;
