@@ -1,11 +1,11 @@
-// The bytes of a file with the new spelling of each member, byte by byte.
-ghost use Rattle.std.specs.Prelude.{◌≡◌, ◌≤◌, ◌<◌, ◌+◌, ◌++◌, ◌∷◌, [], Ok, Some, ℕ, IfOk, OnOk, length, option_copied};
+// The bytes of a file with the new spelling of each member: those between members at once, the others byte by byte.
+ghost use Rattle.std.specs.Prelude.{◌≡◌, ◌≤◌, ◌<◌, ◌+◌, ◌-◌, ◌++◌, ◌∷◌, [], Ok, Some, ℕ, IfOk, OnOk, length, take, drop, option_copied};
 ghost use Rattle.std.specs.Option.{option_map, option_map_or};
 ghost use Rattle.lexer.specs.FileText.{file_text};
 ghost use Rattle.lexer.specs.Places.{pos};
 ghost use Rattle.part_respell.specs.Order.{AreInOrder, AreLeft, IsUpTo};
 ghost use Rattle.part_respell.specs.Respelled.{member_over, put_in, respelled};
-ghost use Rattle.part_respell.specs.Walk.{is_character};
+ghost use Rattle.part_respell.specs.Walk.{is_between, is_character, next_at, next_byte};
 
 use cs_base::{Memory, Part};
 use lexer::FileText;
@@ -57,6 +57,49 @@ fn over(file: u32, members: &[Part], at: u32) -> Option<Part>
     }
 }
 
+// Whether no member that is left holds a character.
+fn is_between(members: &[Part], at: u32) -> bool
+    ensures { result ≡ is_between members.now at }
+{
+    match members {
+        [first, ..] => at < first.start.at,
+        [] => true,
+    }
+}
+
+// The character at which the first member begins that is left; this one where none is.
+fn next_at(members: &[Part], at: u32) -> u32
+    ensures { result ≡ next_at members.now at }
+{
+    match members {
+        [first, ..] => first.start.at,
+        [] => at,
+    }
+}
+
+// The offset of its byte; where the file ends if no such member begins in it.
+fn next_byte(file: u32, bytes: &[u8], text: &FileText, members: &[Part]) -> usize
+    requires { file_text file bytes.now ≡ Ok text.now }
+    ensures { result ≡ next_byte bytes.now members.now }
+{
+    match members {
+        [first, ..] => match text.byte_of(first.start.at) {
+            Some(byte) => byte as usize,
+            None => bytes.len(),
+        },
+        [] => bytes.len(),
+    }
+}
+
+// The bytes from one offset to another.
+fn between(bytes: &[u8], from: usize, to: usize) -> &[u8]
+    requires up { from ≤ to }
+    requires within { to ≤ length bytes.now }
+    ensures { result.now ≡ take (to - from) (drop from bytes.now) }
+{
+    &bytes[from..to]
+}
+
 // Adds what stands for a character, which has this byte and lies in this member or in none.
 fn push(
     out: &mut Vec<u8>,
@@ -99,23 +142,32 @@ pub fn respell(
     let mut out = Vec::new(alloc);
     let mut left = members;
     let mut at: u32 = 0;
-    for offset in 0..bytes.len() {
+    let mut offset: usize = 0;
+    'bytes: while offset < bytes.len() {
         if out.len() > most {
             return Ok(None);
         }
-        if is_character(file, bytes, text, at, offset) {
-            push(
-                &mut out,
-                over(file, left, at),
-                name,
-                file,
-                at,
-                bytes[offset],
-            )?;
-            left = behind(file, left, at);
-            at += 1;
+        if is_between(left, at) {
+            let next = next_byte(file, bytes, text, left);
+            out.extend_from_slice(between(bytes, offset, next))?;
+            at = next_at(left, at);
+            offset = next;
         } else {
-            out.push(bytes[offset])?;
+            if is_character(file, bytes, text, at, offset) {
+                push(
+                    &mut out,
+                    over(file, left, at),
+                    name,
+                    file,
+                    at,
+                    bytes[offset],
+                )?;
+                left = behind(file, left, at);
+                at += 1;
+            } else {
+                out.push(bytes[offset])?;
+            }
+            offset += 1;
         }
     }
     if out.len() > most {
