@@ -18,6 +18,9 @@ pub mod StayLemmas
 pub mod StayingWalk
 pub mod PseudoLemmas
 pub mod SharedLemmas
+pub mod AgainTables
+pub mod AgainLemmas
+pub mod UnitAgain
 -- Words of the crates below, passed on.
 pub mod Below
 pub mod EditedLemmas

@@ -21,7 +21,7 @@ becomes_made : (text : List ℕ) (old new : Found) → Becomes old new → is_ma
 becomes_made text old new (inl same) = ap (is_made text) same
 becomes_made text old new (inr opens) = ap (is_made text) opens.2 ∙ sym (ap (is_made text) opens.1)
 
-made_grown : (text path : List ℕ) (old new : Table) → IsGrown old new → made_path text old ≡ Some path → made_path text new ≡ Some path
+pub made_grown : (text path : List ℕ) (old new : Table) → IsGrown old new → made_path text old ≡ Some path → made_path text new ≡ Some path
 unfolding made_path
 made_grown text path [] new g h = absurd (cc)
 made_grown text path (e ∷ old) [] g h = absurd g
@@ -48,7 +48,7 @@ made_first number unit t None h = made_last (defines_of unit) (defines_path numb
 made_first number unit t (Some path) h = h
 
 -- where a unit begins, its pseudo file has its text
-begun : (number : ℕ) (unit : UnitValue) (t : Table) → made_path (defines_of unit) (with_defines number unit t) ≡ Some (pseudo_path number unit t)
+pub begun : (number : ℕ) (unit : UnitValue) (t : Table) → made_path (defines_of unit) (with_defines number unit t) ≡ Some (pseudo_path number unit t)
 begun number unit t = made_first number unit t (made_path (defines_of unit) t) refl
 
 -- ---- units

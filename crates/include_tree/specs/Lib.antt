@@ -8,6 +8,7 @@ pub mod Unit
 pub mod Preprocessed
 pub mod Laws
 pub mod PseudoFiles
+pub mod Again
 -- What contracts see of private fields.
 pub mod GivenFiles
 pub mod ItemTexts

@@ -1,4 +1,5 @@
 // What is true of all units: laws that no caller runs, and that callers' proofs cite.
+ghost use Rattle.include_tree.specs.Again.{ItemsGiveTheSameAgain, UnitGivesTheSameAgain};
 ghost use Rattle.include_tree.specs.Laws.{FilesLead, UnitsEnd, DepthIsALimit};
 ghost use Rattle.source_files.specs.Tables.{EarlierFound, SomeAgrees};
 ghost use Rattle.include_tree.specs.PseudoFiles.{EqualSettingsShare, OthersStay};
@@ -31,4 +32,16 @@ pub fn pseudo_files_are_of_their_units()
 /// first of them.
 pub fn equal_settings_share()
     ensures share { EqualSettingsShare }
+{}
+
+/// What the items of a file gave, they give again in another unit of the same standard that looks for headers in the same
+/// directories, where the table of files has only grown since: nothing is asked for, and nothing is read.
+pub fn items_give_the_same_again()
+    ensures again { ItemsGiveTheSameAgain }
+{}
+
+/// A unit that was preprocessed gives the same text again where the table of files has only grown since, whatever its number
+/// is: nothing is asked for, and nothing is read.
+pub fn unit_gives_the_same_again()
+    ensures again { UnitGivesTheSameAgain }
 {}

@@ -27,7 +27,8 @@ mod unit_walk;
 mod walking;
 
 pub use laws::{
-    depth_is_a_limit, equal_settings_share, pseudo_files_are_of_their_units, tables_only_grow,
+    depth_is_a_limit, equal_settings_share, items_give_the_same_again,
+    pseudo_files_are_of_their_units, tables_only_grow, unit_gives_the_same_again,
     units_are_counted,
 };
 pub use source_files::{Cache, GnuLine, Item, ItemKind, KeptFile, PreFault, begins_header};
