@@ -1,5 +1,9 @@
 // Macro definitions (ISO/IEC 9899:1999, 6.10.3).
-use cs_base::{Tok, Toks};
+ghost use Rattle.std.specs.Prelude.{◌≡◌, IfOk};
+
+use crate::shared_tokens::{all_shared, shared};
+use cs_base::{Memory, Tok, Toks};
+use std::alloc::Global;
 
 /// The form of a macro: object-like or function-like as its `define` line says (6.10.3 paragraphs 9
 /// and 10), or one of those that stand for the line and the path of the file (6.10.8) and for the next
@@ -24,4 +28,21 @@ pub struct Definition {
     pub named: bool,
     pub body: Toks,
     pub gnu: bool,
+}
+
+impl Definition {
+    /// The same definition. Texts and origins of its tokens are shared.
+    pub(crate) fn copied(&self, alloc: Global) -> Result<Definition, Memory>
+        ensures { IfOk result (λ m. m ≡ self.now) }
+    {
+        Ok(Definition {
+            name: shared(&self.name)?,
+            form: self.form,
+            params: Toks::new(all_shared(alloc, self.params.as_slice())?),
+            variadic: self.variadic,
+            named: self.named,
+            body: Toks::new(all_shared(alloc, self.body.as_slice())?),
+            gnu: self.gnu,
+        })
+    }
 }

@@ -1,8 +1,8 @@
 //! Macros and what their bodies become (ISO/IEC 9899:1999, 6.10.3).
 //!
-//! `Macros` keeps the macros that are defined, a finite map by `specs/Live.antt`; `Definition::of` gives the
-//! definition of a `define` line, by `specs/Defining.antt`, which has the first definitions of `__LINE__`,
-//! `__FILE__` and `__COUNTER__` too. A `HiddenTok` is a token with the names that are not available to it.
+//! `Macros` keeps the macros that are defined, a finite map by `specs/Live.antt`, and can be copied;
+//! `Definition::of` gives the definition of a `define` line, by `specs/Defining.antt`, which has the first definitions
+//! of `__LINE__`, `__FILE__` and `__COUNTER__` too. A `HiddenTok` is a token with the names that are not available to it.
 //! `result_of` gives what a name is replaced by, its arguments given: strings are made, then tokens are pasted
 //! (`specs/Substitution.antt`); `Notes` keep what happened on the way, and `Work` is what is left to be done. Where
 //! names are found, and their arguments read, belongs to `macro_expand`. What makes tokens, definitions or notes

@@ -1,5 +1,5 @@
 // The macros that are defined (6.10.3.5).
-ghost use Rattle.std.specs.Prelude.{◌≡◌, OnOk, OnErr, option_copied};
+ghost use Rattle.std.specs.Prelude.{◌≡◌, map, IfOk, OnOk, OnErr, option_copied};
 ghost use Rattle.macro_body.specs.Live.{table_of, no_macro, with_macro, without_macro};
 
 use crate::definitions::Definition;
@@ -60,4 +60,32 @@ impl Macros {
     {
         self.live.get(name)
     }
+
+    /// The same macros. Texts and origins of their tokens are shared.
+    pub fn copied(&self) -> Result<Macros, Memory>
+        ensures { IfOk result (λ macros. table_of macros ≡ table_of self.now) }
+    {
+        let live = same_entries(self.alloc, &self.live)?;
+        Ok(Macros {
+            alloc: self.alloc,
+            live,
+        })
+    }
+}
+
+// A map with the same definitions under the same names.
+fn same_entries(
+    alloc: Global,
+    live: &HashMap<Vec<u8>, Definition>,
+) -> Result<HashMap<Vec<u8>, Definition>, Memory>
+    ensures { IfOk result (λ all. table_of (map (λ e. (e.0.items, e.1)) all.entries)
+        ≡ table_of (map (λ e. (e.0.items, e.1)) live.now.entries)) }
+{
+    let mut all = HashMap::with_capacity(alloc, live.len())?;
+    for (name, m) in live {
+        let key = Vec::from_slice(alloc, name.as_slice())?;
+        let same = m.copied(alloc)?;
+        all.insert(key, same)?;
+    }
+    Ok(all)
 }
