@@ -1,17 +1,15 @@
 -- Names that are found by their spellings.
-use Rattle.std.proofs.Common.{zero, suc, ◌≡◌, ℕ, Bool, true, false, cond, List, [], ◌∷◌, ◌++◌, map, Option, Some, None, is_some, take, get_or, ◌+◌, ◌<◌, length, refl, sym, ◌∙◌, ap, inl, inr, arith}
-use Rattle.std.specs.Map.{lookup}
+use Rattle.std.proofs.Common.{zero, suc, ◌≡◌, ℕ, Bool, true, false, cond, List, [], ◌∷◌, ◌++◌, map, Option, Some, None, is_some, take, get_or, ◌+◌, ◌<◌, length, refl, sym, ◌∙◌, ap, subst, append_assoc, inl, inr, arith}
+use Rattle.std.specs.List.{AllByRecursion, IsDistinct}
+use Rattle.std.specs.Map.{lookup, keys_of}
 use Rattle.std.specs.Str.{bytes_eq}
 use Rattle.std.proofs.lemmas.Bool.{cases_Bool}
-use Rattle.std.proofs.lemmas.List.{map-append}
+use Rattle.std.proofs.lemmas.Cmp.{nat_list_eq_equiv}
+use Rattle.std.proofs.lemmas.List.{map-append, append-nil}
 use Rattle.cs_base.specs.Token.{Token}
 use Rattle.cs_base.proofs.FileMapLemmas.{bytes_eq-equal}
 use Rattle.unit_steps.specs.Names.{spelled_in}
-use Rattle.unit_steps.specs.FirstNames.{names_with, names_of, AreSpelled}
-
--- entries with their keys spelled
-abbrev pub rows_of : {K : Type 0} → (K → List ℕ) → List (K × Token) → List (List ℕ × Token)
-rows_of spelling es = map (λ e. (spelling e.0, e.1)) es
+use Rattle.unit_steps.specs.FirstNames.{names_with, names_of, rows_of, AreSpelled}
 
 lookup-rows : {K : Type 0} (spelling : K → List ℕ) (test : List ℕ → Bool) (es : List (K × Token))
     → lookup (λ k. test (spelling k)) es ≡ lookup test (rows_of spelling es)
@@ -103,3 +101,59 @@ firsts-more names new toks i t below is news h text =
 -- a name that is new comes last
 pub names-added : (names : List Token) (t name : Token) → is_some (spelled_in names name.text) ≡ false → t ≡ name → names ++ t ∷ [] ≡ names_with name names
 names-added names t name new is = rw new (ap (λ (u : Token). names ++ u ∷ []) is)
+
+-- ---- rows that are copied, one after the other
+
+apart-rows : {K : Type 0} (spelling : K → List ℕ) (key : K) (es : List (K × Token))
+    → AllByRecursion (λ k. bytes_eq (spelling key) (spelling k) ≡ false) (keys_of es)
+    → AllByRecursion (λ name. bytes_eq (spelling key) name ≡ false) (keys_of (rows_of spelling es))
+apart-rows spelling key [] h = tt
+apart-rows spelling key (e ∷ es) h = (h.0, apart-rows spelling key es h.1)
+
+distinct-rows : {K : Type 0} (spelling : K → List ℕ) (es : List (K × Token)) → IsDistinct (λ x y. bytes_eq (spelling x) (spelling y)) (keys_of es)
+    → IsDistinct bytes_eq (keys_of (rows_of spelling es))
+unfolding IsDistinct
+distinct-rows spelling [] h = tt
+distinct-rows spelling (e ∷ es) h = (apart-rows spelling e.0 es h.0, distinct-rows spelling es h.1)
+
+apart-behind : (text : List ℕ) (rows : List (List ℕ × Token)) (row : List ℕ × Token) (rest : List (List ℕ × Token))
+    → AllByRecursion (λ name. bytes_eq text name ≡ false) (keys_of (rows ++ row ∷ rest)) → bytes_eq text row.0 ≡ false
+apart-behind text [] row rest h = h.0
+apart-behind text (r ∷ rows) row rest h = apart-behind text rows row rest h.1
+
+-- a row's spelling is not among those before it
+none-before : (rows : List (List ℕ × Token)) (row : List ℕ × Token) (rest : List (List ℕ × Token))
+    → IsDistinct bytes_eq (keys_of (rows ++ row ∷ rest)) → lookup (bytes_eq row.0) rows ≡ None
+unfolding IsDistinct
+none-before [] row rest h = refl
+none-before (r ∷ rows) row rest h =
+    let other : bytes_eq row.0 r.0 ≡ false = nat_list_eq_equiv.symm row.0 r.0 ∙ apart-behind r.0 rows row rest h.0 in
+    rw other (none-before rows row rest h.1)
+
+-- where the rows so far and those that are left are all of them, the next key is new
+pub next-new : {K : Type 0} (spelling : K → List ℕ) (all : List (K × Token)) (so_far : List (K × Token)) (key : List ℕ) (e : K × Token) (left : List (K × Token))
+    → IsDistinct (λ x y. bytes_eq (spelling x) (spelling y)) (keys_of all) → key ≡ spelling e.0
+    → rows_of spelling so_far ++ rows_of spelling (e ∷ left) ≡ rows_of spelling all → lookup (λ k. bytes_eq key (spelling k)) so_far ≡ None
+next-new spelling all so_far key e left distinct is whole =
+    ap (λ (n : List ℕ). lookup (λ k. bytes_eq n (spelling k)) so_far) is ∙ lookup-rows spelling (bytes_eq (spelling e.0)) so_far
+    ∙ none-before (rows_of spelling so_far) (spelling e.0, e.1) (rows_of spelling left)
+    (subst (λ (rows : List (List ℕ × Token)). IsDistinct bytes_eq (keys_of rows)) (sym whole) (distinct-rows spelling all distinct))
+
+-- and behind it the rows so far and those that are left are all of them
+pub next-rows : {K : Type 0} (spelling : K → List ℕ) (so_far new : List (K × Token)) (key : K) (name : Token) (e : K × Token) (left : List (K × Token)) (all : List (List ℕ × Token))
+    → new ≡ so_far ++ (key, name) ∷ [] → spelling key ≡ spelling e.0 → name ≡ e.1 → rows_of spelling so_far ++ rows_of spelling (e ∷ left) ≡ all
+    → rows_of spelling new ++ rows_of spelling left ≡ all
+next-rows spelling so_far new key name e left all is same token whole =
+    let row : (spelling key, name) ≡ (spelling e.0, e.1) = λ i. (same i, token i) in
+    ap (λ (rows : List (List ℕ × Token)). rows ++ rows_of spelling left) (rows-push spelling so_far new key name is ∙ ap (λ (r : List ℕ × Token). rows_of spelling so_far ++ r ∷ []) row)
+    ∙ append_assoc (rows_of spelling so_far) ((spelling e.0, e.1) ∷ []) (rows_of spelling left) ∙ whole
+
+-- before the first of them, and behind the last
+pub rows-begin : {K : Type 0} (spelling : K → List ℕ) (none left all : List (K × Token)) → none ≡ [] → left ≡ all → rows_of spelling none ++ rows_of spelling left ≡ rows_of spelling all
+rows-begin {K = K} spelling none left all empty whole =
+    ap (λ (es : List (K × Token)). rows_of spelling es ++ rows_of spelling left) empty ∙ ap (rows_of spelling) whole
+
+pub rows-end : {K : Type 0} (spelling : K → List ℕ) (left so_far : List (K × Token)) (all : List (List ℕ × Token)) → left ≡ [] → rows_of spelling so_far ++ rows_of spelling left ≡ all
+    → rows_of spelling so_far ≡ all
+rows-end {K = K} spelling left so_far all is h =
+    sym (append-nil (rows_of spelling so_far)) ∙ ap (λ (es : List (K × Token)). rows_of spelling so_far ++ rows_of spelling es) (sym is) ∙ h

@@ -10,5 +10,6 @@ pub mod QuestionLemmas
 pub mod BeginningLemmas
 pub mod IncludingLemmas
 pub mod VisitLemmas
+pub mod PieceLemmas
 -- Words of the crates below, passed on.
 pub mod Below

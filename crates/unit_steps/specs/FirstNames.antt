@@ -15,3 +15,7 @@ names_of rows = map (λ row. row.1) rows
 abbrev pub AreSpelled : List (List ℕ × Token) → Type 0
 AreSpelled [] = Unit {0}
 AreSpelled (row ∷ rows) = (row.0 ≡ row.1.text) × AreSpelled rows
+
+-- entries of a map, their keys spelled
+abbrev pub rows_of : {K : Type 0} → (K → List ℕ) → List (K × Token) → List (List ℕ × Token)
+rows_of spelling es = map (λ e. (spelling e.0, e.1)) es

@@ -10,6 +10,7 @@ pub mod IncludeNames
 pub mod Texts
 pub mod FirstNames
 pub mod Keeping
+pub mod Pieces
 pub mod SourceTexts
 pub mod Moments
 pub mod Answering

@@ -1,5 +1,8 @@
 // What happens while a unit is preprocessed.
-use cs_base::{Pos, Tok};
+ghost use Rattle.std.specs.Prelude.{◌≡◌, IfOk};
+
+use cs_base::{Memory, Pos, Tok};
+use macro_expand::shared;
 
 /// What an event is.
 #[derive(Clone, Copy, Debug, PartialEq, Eq)]
@@ -48,4 +51,24 @@ pub struct Reached {
     pub evaluated: bool,
     pub events: u32,
     pub before: u32,
+}
+
+impl Event {
+    // The same event. Text and origins of its name are shared.
+    pub(crate) fn copied(&self) -> Result<Event, Memory>
+        ensures { IfOk result (λ event. event ≡ self.now) }
+    {
+        let name = match &self.name {
+            Some(name) => Some(shared(name)?),
+            None => None,
+        };
+        Ok(Event {
+            kind: self.kind,
+            name,
+            at: self.at,
+            def: self.def,
+            file: self.file,
+            before: self.before,
+        })
+    }
 }

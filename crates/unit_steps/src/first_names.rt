@@ -1,7 +1,7 @@
 // The first names of each spelling.
 ghost use Rattle.std.specs.Prelude.{◌≡◌, [], ℕ, List, is_some, IfOk, option_copied};
 ghost use Rattle.unit_steps.specs.Names.{spelled_in};
-ghost use Rattle.unit_steps.specs.FirstNames.{names_with};
+ghost use Rattle.unit_steps.specs.FirstNames.{names_with, rows_of};
 
 use cs_base::{Memory, Tok};
 use indexmap::IndexMap;
@@ -73,4 +73,31 @@ impl FirstNames {
         }
         Ok(names)
     }
+
+    /// The same names. Texts and origins are shared.
+    pub fn copied(&self) -> Result<FirstNames, Memory>
+        ensures { IfOk result (λ names. names ≡ self.now) }
+    {
+        let names = same_entries(self.alloc, &self.names)?;
+        Ok(FirstNames {
+            alloc: self.alloc,
+            names,
+        })
+    }
+}
+
+// A map with the same names under the same spellings, in the same order.
+fn same_entries(
+    alloc: Global,
+    names: &IndexMap<Vec<u8>, Tok>,
+) -> Result<IndexMap<Vec<u8>, Tok>, Memory>
+    ensures { IfOk result (λ all. rows_of (λ k. k.items) all.entries ≡ rows_of (λ k. k.items) names.now.entries) }
+{
+    let mut all = IndexMap::with_capacity(alloc, names.len())?;
+    for (text, name) in names {
+        let key = Vec::from_slice(alloc, text.as_slice())?;
+        let same = shared(name)?;
+        all.insert(key, same)?;
+    }
+    Ok(all)
 }

@@ -7,7 +7,8 @@
 //! definition in `specs/State.antt`, and what happens in it is a list of `specs/Notes.antt`. Which lines are processed,
 //! and in which order, is `include_tree`. Every step wants memory. Read `specs/Notes.antt`, `specs/State.antt`,
 //! `specs/Conditions.antt`, `specs/Questions.antt`, `specs/Directives.antt` and `specs/IncludeNames.antt`, then
-//! `progress.rt`, `conditions.rt`, `questions.rt` and `directives.rt`.
+//! `progress.rt`, `conditions.rt`, `questions.rt` and `directives.rt`. What units begin with alike can be kept: macros and
+//! first names are copied, and what stands between two `Mark`s of a text is put behind another (`specs/Pieces.antt`).
 #![tactic(auto)]
 
 mod beginning;
@@ -25,8 +26,8 @@ mod visits;
 pub use directives::behind_word;
 pub use events::{Event, EventKind, Reached};
 pub use first_names::FirstNames;
-pub use macro_expand::{push_shared, shared};
+pub use macro_expand::{Macros, Work, push_shared, shared};
 pub use progress::Progress;
 pub use questions::{Question, asks_next, questions_of};
 pub use source_text::SourceText;
-pub use unit_text::UnitText;
+pub use unit_text::{Mark, UnitText};

@@ -3,9 +3,11 @@ ghost use Rattle.std.specs.Prelude.{◌≡◌};
 ghost use Rattle.unit_steps.specs.Texts.{text_of};
 
 mod noting;
+mod pieces;
 
 use crate::events::{Event, Reached};
 use cs_base::{Link, Tok};
+pub use pieces::Mark;
 use std::marker::Model;
 
 /// The tokens of a unit, and what happened while it was preprocessed. Contracts see the record of its

@@ -3,8 +3,8 @@ use Rattle.std.specs.Str.{bytes_eq}
 use Rattle.indexmap.proofs.CallerLemmas.{insert_entry-new}
 use Rattle.cs_base.specs.Token.{Token}
 use Rattle.unit_steps.specs.Names.{spelled_in}
-use Rattle.unit_steps.specs.FirstNames.{names_of}
-use Rattle.unit_steps.proofs.FirstNamesLemmas.{rows_of, find-none, names-push, names-added, are_spelled-push}
+use Rattle.unit_steps.specs.FirstNames.{names_of, rows_of}
+use Rattle.unit_steps.proofs.FirstNamesLemmas.{find-none, names-push, names-added, are_spelled-push}
 use Rattle.unit_steps.proofs.first_names.FirstNames.add.Goals as goal
 
 new : (c : goal.Joined-branch-4) → is_some (spelled_in (names_of (rows_of (λ k. k.items) c.self.inside.names.entries)) c.args.name.now.text) ≡ false
