@@ -3,4 +3,5 @@ pub mod Words
 pub mod Tokens
 pub mod Counted
 pub mod Lists
+pub mod Strings
 pub mod WholeWords

@@ -13,9 +13,10 @@ use Rattle.cs_base.proofs.BoolLemmas.{both_true, or_left, or_right_none}
 use Rattle.analysis.specs.Below.scope_bind.declared.bound.Name.{Name}
 use Rattle.analysis.specs.Below.scope_bind.Names.{entity_at}
 use Rattle.gnu_lists.specs.declared.lists.Adjacent.{Adjacent}
+use Rattle.gnu_lists.specs.Strings.{given_by}
 use Rattle.gnu_lists.specs.WholeWords.{holds_from, holds_word, is_word_byte, stands_first}
 use Rattle.part_respell.specs.Respelled.{spelled}
-use Rattle.rename_rules.specs.GnuOffences.{is_named, joined, text_toks, unquoted}
+use Rattle.rename_rules.specs.GnuOffences.{is_named, joined, text_toks}
 use Rattle.offences.specs.Tokens.{holds_member}
 use Rattle.rename_rules.specs.GnuTexts.{is_free, may_be_named, may_name, may_stand, stands_in, NoneIsFree}
 
@@ -91,9 +92,9 @@ module _ (members : List Part) (name : List ℕ) (toks : List Token) where
       let rest = drop x.from toks in
       let count = x.to - x.from in
       ap (joined members name) (sym (take-append-drop x.from toks))
-      ∙ (flat_map-append (λ (t : Token). unquoted (spelled members name t)) (take x.from toks) rest
+      ∙ (flat_map-append (λ (t : Token). given_by (spelled members name t)) (take x.from toks) rest
       ∙ ap (λ (w : List ℕ). joined members name (take x.from toks) ++ w)
-      (ap (joined members name) (sym (take-append-drop count rest)) ∙ flat_map-append (λ (t : Token). unquoted (spelled members name t)) (take count rest) (drop count rest)))
+      (ap (joined members name) (sym (take-append-drop count rest)) ∙ flat_map-append (λ (t : Token). given_by (spelled members name t)) (take count rest) (drop count rest)))
 
   named_less : (x : Adjacent) (old : List ℕ) → may_name name (joined members name toks) old ≡ false → is_named name (joined members name (text_toks toks x)) old ≡ false
   named_less x old none =

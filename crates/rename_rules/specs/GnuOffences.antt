@@ -1,6 +1,6 @@
 -- What stands against the renaming of a class in units of GNU C (this project's, over the manual of gcc): names that denote nothing,
 -- texts for the assembler, and units that would be read or bound otherwise.
-use Rattle.std.specs.Prelude.{ℕ, ◌-◌, ◌&&◌, ◌||◌, not, if◌then◌else◌, Bool, true, false, is_some, Option, Some, List, [], ◌∷◌, ◌++◌, drop, take, length, map, slice_get}
+use Rattle.std.specs.Prelude.{ℕ, ◌-◌, ◌&&◌, ◌||◌, not, if◌then◌else◌, Bool, true, false, is_some, Option, Some, List, [], ◌∷◌, ◌++◌, drop, take, map, slice_get}
 use Rattle.std.specs.List.{flat_map, list_all, list_any}
 use Rattle.std.specs.Option.{option_map_or}
 use Rattle.cs_base.specs.declared.causes.Cause.TheVariants as cause
@@ -16,6 +16,7 @@ use Rattle.analysis.specs.Below.scope_bind.declared.bound.Name.{Name}
 use Rattle.analysis.specs.Below.scope_bind.Names.{entity_at, kind_at, linkage_at}
 use Rattle.gnu_lists.specs.declared.lists.Adjacent.{Adjacent}
 use Rattle.gnu_lists.specs.Lists.{Listed, listed_in}
+use Rattle.gnu_lists.specs.Strings.{given_by}
 use Rattle.gnu_lists.specs.WholeWords.{holds_word}
 use Rattle.part_respell.specs.Respelled.{spelled}
 use Rattle.same_readings.specs.Whole.{goes_whole}
@@ -65,13 +66,10 @@ symbols_in members u = flat_map (symbol_at members u) u.bound.names
 unfoldable pub symbols : AnalysisValue → List Part → List (List ℕ)
 symbols a members = flat_map (symbols_in members) a.units
 
--- a string without its quotes
-abbrev pub unquoted : List ℕ → List ℕ
-unquoted text = take (length text - 2) (drop 1 text)
-
--- what strings side by side give to the assembler (6.4.5 paragraph 4), where their members are respelled
+-- what strings side by side give to the assembler (6.4.5 paragraph 4), escape sequences being the characters for which they stand, where
+-- their members are respelled
 abbrev pub joined : List Part → List ℕ → List Token → List ℕ
-joined members name toks = flat_map (λ t. unquoted (spelled members name t)) toks
+joined members name toks = flat_map (λ t. given_by (spelled members name t)) toks
 
 abbrev pub text_toks : List Token → Adjacent → List Token
 text_toks toks x = take (x.to - x.from) (drop x.from toks)

@@ -3,7 +3,7 @@ ghost use Rattle.std.specs.Prelude.{◌≡◌, ◌-◌, ◌||◌, ◌++◌, [], 
 ghost use Rattle.std.specs.List.{flat_map, list_any};
 ghost use Rattle.cs_base.specs.declared.causes.Cause.TheVariants as cause;
 ghost use Rattle.offences.specs.First.{standing, FirstThen};
-ghost use Rattle.rename_rules.specs.GnuOffences.{is_named, joined, text_toks, unquoted};
+ghost use Rattle.rename_rules.specs.GnuOffences.{is_named, joined, text_toks};
 ghost use Rattle.rename_rules.specs.GnuTexts.{at_place, may_be_named, may_name, may_stand, stands_in, text_place_in};
 ghost use Rattle.cs_base.specs.Token.{Token};
 
@@ -11,20 +11,9 @@ use crate::renamings::Renaming;
 use crate::spelling::spelled;
 use analysis::Analysis;
 use cs_base::{Cause, Memory, Tok};
-use gnu_lists::{Adjacent, holds_word};
+use gnu_lists::{Adjacent, holds_word, push_given};
 use offences::{Offence, first_with};
 use std::alloc::Global;
-
-// A string without its quotes.
-fn unquoted(text: &[u8]) -> &[u8]
-    ensures { result.now ≡ unquoted text.now }
-{
-    if text.len() < 2 {
-        b""
-    } else {
-        &text[1..text.len() - 1]
-    }
-}
 
 // What strings side by side give to the assembler once members are respelled.
 fn joined(alloc: Global, renaming: &Renaming<'_>, toks: &[Tok]) -> Result<Vec<u8>, Memory>
@@ -33,7 +22,7 @@ fn joined(alloc: Global, renaming: &Renaming<'_>, toks: &[Tok]) -> Result<Vec<u8
     let mut out = Vec::new(alloc);
     for tok in toks {
         let text = spelled(alloc, renaming.class(), renaming.name(), tok)?;
-        out.extend_from_slice(unquoted(&text))?;
+        push_given(&mut out, &text)?;
     }
     Ok(out)
 }

@@ -1,6 +1,6 @@
 -- What units of GNU C say against a new order of items (this project's, over the manual of gcc): attributes that may count the
 -- parameters of a function, names and texts by which the assembler may have it, and blocks inside its lists.
-use Rattle.std.specs.Prelude.{ℕ, ◌-◌, ◌≡◌, ◌&&◌, if◌then◌else◌, Bool, Option, Some, List, [], ◌∷◌, ◌++◌, drop, take, length, slice_get}
+use Rattle.std.specs.Prelude.{ℕ, ◌-◌, ◌≡◌, ◌&&◌, if◌then◌else◌, Bool, Option, Some, List, [], ◌∷◌, ◌++◌, drop, take, slice_get}
 use Rattle.std.specs.List.{flat_map, list_any}
 use Rattle.std.specs.Option.{option_map_or}
 use Rattle.cs_base.specs.declared.causes.Cause.TheVariants as cause
@@ -13,6 +13,7 @@ use Rattle.c_types.specs.Declarations.{spelling_at}
 use Rattle.gnu_lists.specs.declared.counted.Counted.{Counted}
 use Rattle.gnu_lists.specs.declared.lists.Adjacent.{Adjacent}
 use Rattle.gnu_lists.specs.Lists.{Listed, listed_in}
+use Rattle.gnu_lists.specs.Strings.{given_by}
 use Rattle.gnu_lists.specs.WholeWords.{holds_word}
 use Rattle.analysis.specs.Below.scope_bind.declared.bound.Name.{Name}
 use Rattle.analysis.specs.Below.scope_bind.Bound.{Bound}
@@ -45,13 +46,10 @@ unit_spellings members u = flat_map (declared_text members u.text.toks u.bound.n
 abbrev pub spellings : List Part → AnalysisValue → List (List ℕ)
 spellings members a = flat_map (unit_spellings members) a.units
 
--- a string without its quotes
-abbrev pub unquoted : List ℕ → List ℕ
-unquoted text = take (length text - 2) (drop 1 text)
-
--- what strings side by side give to the assembler (ISO/IEC 9899:1999, 6.4.5 paragraph 4)
+-- what strings side by side give to the assembler (ISO/IEC 9899:1999, 6.4.5 paragraph 4), escape sequences being the characters for which
+-- they stand
 abbrev pub joined : List Token → List ℕ
-joined toks = flat_map (λ (t : Token). unquoted t.text) toks
+joined toks = flat_map (λ (t : Token). given_by t.text) toks
 
 abbrev pub text_toks : List Token → Adjacent → List Token
 text_toks toks x = take (x.to - x.from) (drop x.from toks)

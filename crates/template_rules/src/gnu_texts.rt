@@ -5,14 +5,14 @@ ghost use Rattle.std.specs.List.{flat_map, list_any};
 ghost use Rattle.cs_base.specs.declared.causes.Cause.TheVariants as cause;
 ghost use Rattle.gnu_lists.specs.WholeWords.{holds_word};
 ghost use Rattle.offences.specs.First.{standing, FirstThen};
-ghost use Rattle.template_rules.specs.GnuOffences.{brought_place, declared_text, has_word, joined, spellings, text_place, text_toks, unquoted};
+ghost use Rattle.template_rules.specs.GnuOffences.{brought_place, declared_text, has_word, joined, spellings, text_place, text_toks};
 
 use crate::dependences::spelling_at;
 use crate::functions::Functions;
 use crate::unit_functions::{UnitFunctions, declares_function};
 use analysis::{Analysis, Name};
 use cs_base::{Cause, Memory, Tok};
-use gnu_lists::{Adjacent, holds_word};
+use gnu_lists::{Adjacent, holds_word, push_given};
 use offences::{Offence, first_with};
 use std::alloc::Global;
 
@@ -74,24 +74,13 @@ pub(crate) fn spellings<'a>(
     Ok(out)
 }
 
-// A string without its quotes.
-fn unquoted(text: &[u8]) -> &[u8]
-    ensures { result.now ≡ unquoted text.now }
-{
-    if text.len() < 2 {
-        b""
-    } else {
-        &text[1..text.len() - 1]
-    }
-}
-
 // What strings side by side give to the assembler.
 fn joined(alloc: Global, toks: &[Tok]) -> Result<Vec<u8>, Memory>
     ensures { IfOk result (λ text. text.items ≡ joined toks.now) }
 {
     let mut out = Vec::new(alloc);
     for tok in toks {
-        out.extend_from_slice(unquoted(tok.text()))?;
+        push_given(&mut out, tok.text())?;
     }
     Ok(out)
 }

@@ -1,0 +1,3 @@
+void foo(void);
+asm(".text\nfoo:\n\tret\n");
+void g(void) { foo(); }

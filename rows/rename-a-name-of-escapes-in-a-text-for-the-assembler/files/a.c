@@ -1,0 +1,5 @@
+void foo(void);
+void g(void) {
+  asm("call \146o\x6f\x0a");
+  foo();
+}

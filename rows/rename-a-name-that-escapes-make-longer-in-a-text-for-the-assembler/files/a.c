@@ -1,0 +1,3 @@
+void foo(void);
+asm("call bar\x66oo\n");
+void g(void) { foo(); }

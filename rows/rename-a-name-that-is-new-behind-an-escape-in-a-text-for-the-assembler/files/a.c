@@ -1,0 +1,2 @@
+void foo(void);
+asm("nop\n\tcall" "\tbar");

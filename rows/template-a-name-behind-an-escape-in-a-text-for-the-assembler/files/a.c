@@ -1,0 +1,2 @@
+int f(int a, int b);
+asm("nop\nf:\n\tret\n");
