@@ -3,13 +3,21 @@
 import os
 import re
 import subprocess
+from concurrent.futures import ThreadPoolExecutor
 
 from options import Odd
 from record import Refused
 
-# What a condition asks the compiler of attributes and built-ins, and the operands of such questions.
-ASKED = ("__has_attribute", "__has_builtin", "__has_c_attribute", "__has_cpp_attribute")
-OPERAND = re.compile(rb"(?i)has_(?:builtin|(?:c_|cpp_)?attribute)\s*\(\s*(\w+)\s*\)")
+# What a condition asks the compiler of one word, as gcc or clang has it; the operands of such questions, each of which counts for each question,
+# since programs wrap them in macros of their own; and the names of warnings, in quotes, of which no macro can be made.
+QUESTIONS = ("__has_attribute", "__has_builtin", "__has_c_attribute", "__has_cpp_attribute", "__has_feature", "__has_extension",
+             "__has_declspec_attribute", "__is_identifier", "__building_module")
+ASKED = {
+    "question": re.compile(rb"\b(" + "|".join(QUESTIONS).encode() + rb")\b"),
+    "operand": re.compile(rb"(?i)(?:has_(?:builtin|feature|extension|(?:c_|cpp_|declspec_)?attribute)|is_identifier|building_module)"
+                          rb"\s*\(\s*(\w+)\s*\)"),
+    "warning": re.compile(rb'__has_warning\s*\(\s*("[-\w+=]+")\s*\)'),
+}
 MACHINES = (("__ILP32__", "other"), ("__x86_64__", "x86_64"), ("__aarch64__", "aarch64"), ("__i386__", "i386"))
 
 
@@ -82,11 +90,39 @@ def _macros(said):
     return [head_and_body(line) for line in lines]
 
 
+def _questions(asked):
+    """A text in which the compiler says which of the questions it has, by their numbers, and what it answers to each for each operand."""
+    words = {name for kind, name in asked if kind == "operand"}
+    words |= {f"__{name}__" for name in words if not name.startswith("_")} | {name.strip("_") for name in words} - {""}
+    lines = []
+    for number, question in enumerate(QUESTIONS):
+        if ("question", question) in asked:
+            answers = [f"answer {number} {word} {question}({word})" for word in sorted(words)]
+            lines += [f"#ifdef {question}", f"there {number}", *answers, "#endif"]
+    warnings = [f"warning __has_warning({name})" for kind, name in sorted(asked) if kind == "warning"]
+    return "\n".join([*lines, "#ifdef __has_warning", "warnings", *warnings, "#endif", ""])
+
+
+def _answers(said):
+    """The define lines for what the compiler says of such a text: an operand is pasted to a name, which has a line where the compiler
+    affirms it. Of warnings the answer is one for all."""
+    lines, rows = [], [line.split() for line in said.splitlines()]
+    for row in rows:
+        name = QUESTIONS[int(row[1])].strip("_") if row[:1] in (["there"], ["answer"]) else ""
+        if row[:1] == ["there"]:
+            lines += [f"__{name}(__name) cscout_{name}(__name)", f"cscout_{name}(__name) cscout_{name}_##__name"]
+        elif row[:1] == ["answer"] and row[-1].isdigit() and int(row[-1]):
+            lines.append(f"cscout_{name}_{row[2]} {row[-1]}")
+    if ["warnings"] in rows:
+        lines.append(f"__has_warning(__name) {int(all(row[1:] == ['1'] for row in rows if row[:1] == ['warning']))}")
+    return lines
+
+
 class Compilers:
     """Asks each compiler once for each directory and list of options."""
 
     def __init__(self):
-        self.known, self.folders, self.libraries, self.operands, self.answers, self.included = {}, {}, {}, {}, {}, {}
+        self.known, self.folders, self.libraries, self.texts, self.asked, self.answers = {}, {}, {}, {}, {}, {}
 
     def ask(self, compiler, directory, options):
         if "/" in compiler:
@@ -121,47 +157,43 @@ class Compilers:
         return Answer(quote, angle, {folder for folder, real in zip(angle, at) if real in own}, macros,
                       self._library(compiler, directory, options))
 
-    def affirmed(self, entry):
-        """The define lines that answer what the unit's files ask of attributes and built-ins: the operand is pasted to a name, which
-        has a line where the compiler affirms it."""
-        names = set()
-        for path in self._files(entry):
-            names |= self._asked_in(path)
-        names |= {f"__{name}__" for name in names if not name.startswith("_")} | {name.strip("_") for name in names} - {""}
-        return self._affirmed(entry, frozenset(names))
+    def look(self, entries):
+        """Notes what the files of these units ask the compiler of words, for all units that have one compiler, folder and options: so all
+        of them have the same answers. The compiler names the files of several units at once."""
+        with ThreadPoolExecutor(len(os.sched_getaffinity(0))) as pool:
+            for entry, files in zip(entries, pool.map(self._files, entries)):
+                asked = self.asked.setdefault(self._key(entry), set())
+                for path in files:
+                    asked |= self._asked_in(path)
 
-    def _files(self, entry):
+    def affirmed(self, entry):
+        """The define lines that answer what units like this one ask the compiler of words."""
+        key = self._key(entry)
+        if key not in self.answers:
+            compiler = os.path.join(entry.directory, entry.compiler) if "/" in entry.compiler else entry.compiler
+            words = [compiler, *entry.options.asking, "-w", "-E", "-P", "-x", "c", "-"]
+            self.answers[key] = _answers(_run(words, entry.directory, _questions(self.asked[key])).stdout)
+        return self.answers[key]
+
+    @staticmethod
+    def _key(entry):
+        return entry.compiler, entry.directory, tuple(entry.options.asking)
+
+    @staticmethod
+    def _files(entry):
         """The unit's file and all that it includes, as the compiler names them."""
-        if entry.number not in self.included:
-            said = _run(entry.compiling(["-M", "-MT", "x", "-w"]), entry.directory).stdout
-            self.included[entry.number] = [os.path.join(entry.directory, path) for path in said.replace("\\\n", " ").partition(":")[2].split()]
-        return self.included[entry.number]
+        said = _run(entry.compiling(["-M", "-MT", "x", "-w"]), entry.directory).stdout
+        return [os.path.join(entry.directory, path) for path in said.replace("\\\n", " ").partition(":")[2].split()]
 
     def _asked_in(self, path):
-        if path not in self.operands:
+        if path not in self.texts:
             try:
                 with open(path, "rb") as file:
-                    self.operands[path] = {name.decode() for name in OPERAND.findall(file.read())}
+                    text = file.read()
             except OSError:
-                self.operands[path] = set()
-        return self.operands[path]
-
-    def _affirmed(self, entry, names):
-        key = entry.compiler, entry.directory, tuple(entry.options.asking), names
-        if key not in self.answers:
-            text = "".join(f"#ifdef {word}\nthere {word[6:]}\n#endif\n" for word in ASKED)
-            text += "".join(f"yes {word[6:]}_{name} {word}({name})\n" for word in ASKED for name in sorted(names))
-            compiler = os.path.join(entry.directory, entry.compiler) if "/" in entry.compiler else entry.compiler
-            said = _run([compiler, *entry.options.asking, "-w", "-E", "-P", "-x", "c", "-"], entry.directory, text)
-            lines = []
-            for line in said.stdout.splitlines():
-                word, name, value = (line.split() + ["", "", ""])[:3]
-                if word == "there":
-                    lines += [f"__has_{name}(__name) cscout_{name}(__name)", f"cscout_{name}(__name) cscout_{name}_##__name"]
-                elif word == "yes" and value.isdigit() and int(value):
-                    lines.append(f"cscout_{name} {value}")
-            self.answers[key] = lines
-        return self.answers[key]
+                text = b""
+            self.texts[path] = {(kind, name.decode()) for kind, pattern in ASKED.items() for name in pattern.findall(text)}
+        return self.texts[path]
 
     def _own(self, compiler, directory):
         """The compiler's own folders, with the headers that it brings itself."""

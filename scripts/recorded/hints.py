@@ -1,4 +1,4 @@
-"""What the first fault of a unit means, most often, and what helps: the table of docs/GUIDE.md, row by row, in its order."""
+"""What the first fault of a unit means, most often, and what helps: the tables of docs/GUIDE.md, row by row, in their order."""
 
 import re
 from collections import namedtuple
@@ -12,14 +12,14 @@ CAPITALS = re.compile(r"[A-Z_][A-Z0-9_]+\Z")
 
 
 class Place:
-    """Where a fault stands: the line, whether its file is the program's own, the token and the one before it in the line, and the
-    `define` lines of a macro of that name that the program has."""
+    """Where a fault stands: the line, whether its file is the program's own, the token with the ones before and behind it in the line, and
+    the `define` lines of a macro of that name that the program has."""
 
     def __init__(self, line, column, own, defined):
         self.line, self.own = line, own
         self.token = re.match(r"[A-Za-z_]\w*|\S?", line[column:]).group(0)
-        before = re.findall(r"[A-Za-z_]\w*|\S", line[:column])
-        self.before = before[-1] if before else ""
+        before, behind = (re.findall(r"[A-Za-z_]\w*|\S", part) for part in (line[:column], line[column + len(self.token):]))
+        self.before, self.behind = before[-1] if before else "", behind[0] if behind else ""
         self.defined = defined(self.token) if re.match(r"[A-Za-z_]", self.token) else []
 
 
@@ -46,6 +46,8 @@ HINTS = [
          "read the line above it; `--define` what it asks for"),
     Hint("bad condition", lambda it: True, "`bad condition`", "a test that the compiler has built in, `__has_something(x)`",
          "`--define '__has_something(x) 0'`"),
+    Hint("defined from macro", lambda it: True, "`defined from macro`", "a macro that stands for `defined`",
+         "write out in the condition what it stands for"),
     Hint("not one token", lambda it: True, "`not one token`", "`, ## __VA_ARGS__`",
          "put the argument before it into the `...`, so that the comma needs no care"),
     Hint("wrong arguments", lambda it: True, "`wrong arguments`",
@@ -87,11 +89,47 @@ HINTS = [
 ]
 
 
-def hint_of(words, place):
+# The rows for units of GNU C; where these say nothing, the others do that do not speak of GNU C.
+GNU_HINTS = [
+    Hint("bad directive", lambda it: "__VA_OPT__" in it.line, "`bad directive` at `__VA_OPT__`", "a word of C23 in a macro",
+         "`, ## __VA_ARGS__`"),
+    Hint("bad directive", lambda it: True, "`bad directive` at another line", "`#import`, `#assert`, a line `# 1 \"file\"`",
+         "an edit of the line; where a file is made by a tool, an option of that tool"),
+    Hint("bad condition", lambda it: True, "`bad condition`", "a comma, or a constant as `0b1`; a test that another compiler has built in",
+         "an edit of the line; `--define '__has_something(x) 0'`"),
+    Hint("wrong arguments", lambda it: True, "`wrong arguments`", "a call with another number of arguments, which the compiler refuses too",
+         "build first, and import anew"),
+    Hint("not one token", lambda it: True, "`not one token`", "`##` between what makes no token, which the compiler refuses too", "an edit"),
+    Hint("mixed linkage", lambda it: True, "`mixed linkage`", "a name is declared without `static` first, and with it later, which the compiler "
+         "refuses too", "write `static` at the first declaration too"),
+    Hint("syntax", lambda it: it.token == "{" and it.before == ")", "`syntax` at a `{` behind `)`", "a function in a function",
+         "move it out of the function"),
+    Hint("syntax", lambda it: it.token[:1] in ("\"", "'") or it.before in ("u8", "u", "U"), "`syntax` at a quote behind `u8`, `u` or `U`",
+         "a string or constant with a prefix of C11", "`--without` the unit"),
+    Hint("syntax", lambda it: it.token == "$" or it.before == "$" or (it.token and not it.token.isascii()),
+         "`syntax` at `$`, or at a letter beyond ASCII", "a name with such a letter", "another name, or `--without` the unit"),
+    Hint("syntax", lambda it: True, "`syntax` at another place",
+         "a declaration without a type; words of another compiler than gcc, as `^` and `_BitInt` of clang", "write the type; `--without` the unit"),
+    Hint("undeclared", lambda it: it.behind == "(", "`undeclared` in front of `(`",
+         "a function that no line declares, of which the compiler warns (`-Wimplicit-function-declaration`)",
+         "include its header; or `--include` of the import, with a file that has `int NAME();`"),
+    Hint("undeclared", lambda it: it.before == "enum", "`undeclared` behind `enum`", "an enumeration whose list comes later", "move the list up"),
+    Hint("undeclared", lambda it: True, "`undeclared` at another place",
+         "a name of another compiler than gcc, or `__BASE_FILE__` and its like", "`--define` it"),
+    Hint("no member", lambda it: True, "`no member`", "a member of what `_Generic`, `__builtin_choose_expr` or a vector gives",
+         "a variable of that type for it"),
+    Hint("redeclared", lambda it: True, "`redeclared`", "one name for two things, which the compiler refuses too", "build first, and import anew"),
+]
+# Those of the others that hold there too.
+SHARED = ("missing file", "error directive", "defined from macro", "open call", "too many")
+
+
+def hint_of(words, place, gnu=False):
     """The row for a fault, or None where the table has none."""
-    return next((hint for hint in HINTS if words.startswith(hint.words) and hint.found(place)), None)
+    table = GNU_HINTS + [hint for hint in HINTS if hint.words in SHARED] if gnu else HINTS
+    return next((hint for hint in table if words.startswith(hint.words) and hint.found(place)), None)
 
 
-def rows():
-    """The rows as docs/GUIDE.md has them."""
-    return [f"| {hint.where} | {hint.means} | {hint.helps} |" for hint in HINTS]
+def rows(table):
+    """The rows of a table as docs/GUIDE.md has them."""
+    return [f"| {hint.where} | {hint.means} | {hint.helps} |" for hint in table]

@@ -38,6 +38,8 @@ ODD = [
                                                               "../a.c"]}], ["c.json"], 0,
      "project default\nipath i\ninclude m.h\ninclude d/x.h\ninclude i/y.h\nfile a.c",
      "import: a.c: -imacros ../m.h is read whole: what it declares is seen too\n" + ONE),
+    ("a file that the caller puts before all", {"d/x.h": "", "m.h": ""}, [cc("-include", "m.h")], ["--include", "d/x.h", "--include=m.h", "c.json"],
+     0, "project default\ninclude d/x.h\ninclude m.h\ninclude m.h\nfile a.c", ONE),
     ("a heading for each list of what comes before", {"x.h": "", "y.h": ""},
      [cc("-include", "x.h"), cc("-include", "y.h", "-DA"), cc("-include", "x.h", "-DB"), cc("-DC")], ["c.json"], 0,
      "project default\ninclude x.h\nfile a.c\ndefine B 1\nfile a.c\nproject default\ninclude y.h\ndefine A 1\nfile a.c\n"

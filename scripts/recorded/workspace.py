@@ -108,21 +108,24 @@ def folders_of(entry, answer, root, kept, system):
     return list(dict.fromkeys(map(named, answer.quote))), list(dict.fromkeys(order))
 
 
-def included_files(entry, answer, root):
-    """The files of `-imacros` and then those of `-include`, as the workspace names them: each is looked for in the folder of the
-    command, and then where a quoted name is."""
+def included_files(entry, answer, root, before):
+    """The files `before`, then those of `-imacros` and those of `-include`, as the workspace names them: each of the command's is looked for
+    in its folder, and then where a quoted name is."""
     folders = [entry.directory, *(os.path.join(entry.directory, folder) for folder in [*answer.quote, *answer.angle])]
-    found = []
+    found = [_included(root.file(os.path.abspath(path))) for path in before]
     for option in "-imacros", "-include":
         for name in (value for kind, value in entry.options.included if kind == option):
             at = next((path for path in (os.path.join(folder, name) for folder in folders) if os.path.isfile(path)), None)
             if at is None:
                 raise Odd(f"{option} {name} is a file that is not there")
-            path = root.file(at)
-            if any(sign in path for sign in '"\n') or path != path.strip() or path.endswith("\\"):
-                raise Odd(f"{path!r} is a path that an include line cannot say")
-            found.append(path)
+            found.append(_included(root.file(at)))
     return found
+
+
+def _included(path):
+    if any(sign in path for sign in '"\n') or path != path.strip() or path.endswith("\\"):
+        raise Odd(f"{path!r} is a path that an include line cannot say")
+    return path
 
 
 def gnu_folders(entry, answer, root):

@@ -1,0 +1,3 @@
+#if 0b1
+int binary;
+#endif

@@ -1,0 +1,1 @@
+int called(int value) { return absent(value); }

@@ -1,0 +1,4 @@
+int inner(int n) {
+	int twice(int m) { return 2 * m; }
+	return twice(n);
+}

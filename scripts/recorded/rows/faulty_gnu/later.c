@@ -1,0 +1,2 @@
+enum later *kept;
+enum later { FIRST };

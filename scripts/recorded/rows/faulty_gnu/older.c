@@ -1,0 +1,1 @@
+older(n) int n; { return n; }

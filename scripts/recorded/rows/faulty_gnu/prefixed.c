@@ -1,0 +1,1 @@
+const char *prefixed = u8"text";

@@ -1,0 +1,4 @@
+#define HAS_IT defined(IT)
+#if HAS_IT
+#endif
+int tested;

@@ -1,0 +1,13 @@
+standard gnu11
+file binary.c
+file called.c
+file chosen.c
+file dollar.c
+file good.c
+file inner.c
+file later.c
+file older.c
+file optional.c
+file parted.c
+file prefixed.c
+file tested.c
