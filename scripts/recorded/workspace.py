@@ -7,7 +7,7 @@ from compiler import head_and_body, own_parameters
 from options import Odd
 from record import Refused
 
-MOST_UNITS = 1024
+MOST_UNITS = 8192
 MOST_BYTES = 1 << 22
 # Macros that a unit has before its settings, and whose values the program gives.
 FIRST = ("__STDC__", "__STDC_HOSTED__", "__STDC_VERSION__", "__DATE__", "__TIME__", "_Pragma", "__has_include", "__has_include_next")

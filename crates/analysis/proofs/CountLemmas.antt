@@ -26,10 +26,10 @@ use Rattle.analysis.proofs.MadeLemmas.{ok_holds, done_first}
 
 -- what a unit adds to the count
 abbrev Counts : ℕ → Preprocessed → Type 0
-Counts earlier p = (p.after.toks ≡ earlier + length p.text.toks) × (p.after.toks ≤ 2 ^ 23)
+Counts earlier p = (p.after.toks ≡ earlier + length p.text.toks) × (p.after.toks ≤ 2 ^ 27)
 
-counted_by : (earlier : ℕ) (o : Outcome (List Token)) (p : Preprocessed) → earlier ≤ 2 ^ 23
-    → IfDone (λ toks t. length toks ≤ min (2 ^ 22) (2 ^ 23 - earlier)) o → preprocessed_by earlier o ≡ Ok p → Counts earlier p
+counted_by : (earlier : ℕ) (o : Outcome (List Token)) (p : Preprocessed) → earlier ≤ 2 ^ 27
+    → IfDone (λ toks t. length toks ≤ min (2 ^ 22) (2 ^ 27 - earlier)) o → preprocessed_by earlier o ≡ Ok p → Counts earlier p
 counted_by earlier (Ok d) p few less e = ok_holds {E = Fault} (λ q. Counts earlier q) _ p e (refl, omega arith)
 counted_by earlier (Err fault) p few less e = absurd cc
 
@@ -38,7 +38,7 @@ pub few_done : (o : Outcome (List Token)) (P Q : List Token → State → Type 0
 few_done (Ok d) P Q next h = next d.value d.state h
 few_done (Err fault) P Q next h = tt
 
-unit_counted : (source : Source) (number : ℕ) (unit : UnitValue) (before : Carried) (p : Preprocessed) → before.toks ≤ 2 ^ 23
+unit_counted : (source : Source) (number : ℕ) (unit : UnitValue) (before : Carried) (p : Preprocessed) → before.toks ≤ 2 ^ 27
     → found_at (defines_path number) before.table ≡ None → preprocessed source number unit before ≡ Ok p → Counts before.toks p
 unfolding preprocessed
 unit_counted source number unit before p few none e =
@@ -59,11 +59,11 @@ read_text standard table path text u e =
     bound_text standard table path text tree.0 u tree.2
 
 units_few : (source : Source) (number : ℕ) (units : List UnitValue) (before : Carried) (v : UnitsValue) → All IsUnit units
-    → number + length units ≤ 2 ^ 32 → IsFresh number before.table → before.toks ≤ 2 ^ 23
-    → analysed_from source number units before ≡ Ok v → before.toks + tokens_in v.units ≤ 2 ^ 23
+    → number + length units ≤ 2 ^ 32 → IsFresh number before.table → before.toks ≤ 2 ^ 27
+    → analysed_from source number units before ≡ Ok v → before.toks + tokens_in v.units ≤ 2 ^ 27
 unfolding analysed_from
 units_few source number [] before v are small fresh few e =
-    ok_holds {E = UnitFault} (λ (u : UnitsValue). before.toks + tokens_in u.units ≤ 2 ^ 23) _ v e (omega arith)
+    ok_holds {E = UnitFault} (λ (u : UnitsValue). before.toks + tokens_in u.units ≤ 2 ^ 27) _ v e (omega arith)
 units_few source number (unit ∷ units) before v are small fresh few e =
     let p = done_first (unit_with source number unit before) _ v e in
     let u = done_first (unit_read unit.standard number unit.path p.0) _ v p.2 in
@@ -74,7 +74,7 @@ units_few source number (unit ∷ units) before v are small fresh few e =
     let same : length u.0.text.toks ≡ length p.0.text.toks = ap (λ (t : UnitTextValue). length t.toks) text in
     let rest = units_few source (number + 1) units p.0.after later.0 (All-tail IsUnit unit units are) (omega arith)
     (fresh_on source number unit before p.0 (All-head IsUnit unit units are) (omega arith) fresh done) counts.1 later.1 in
-    ok_holds {E = UnitFault} (λ (w : UnitsValue). before.toks + tokens_in w.units ≤ 2 ^ 23) (with_unit u.0 later.0) v later.2
+    ok_holds {E = UnitFault} (λ (w : UnitsValue). before.toks + tokens_in w.units ≤ 2 ^ 27) (with_unit u.0 later.0) v later.2
     (let c = counts.0 in omega arith)
 
 pub tokens_are_few : TokensAreFew
@@ -82,4 +82,4 @@ tokens_are_few source ws a is e =
     let all = done_first (analysed_from source 1 ws.units nothing_carried) _ a e in
     let small = is.are_few in
     let few = units_few source 1 ws.units nothing_carried all.0 is.are_units (omega arith) (fresh_first 1) (omega arith) all.1 in
-    ok_holds {E = UnitFault} (λ (b : AnalysisValue). tokens_in b.units ≤ 2 ^ 23) (analysis_and ws all.0.units all.0.table) a all.2 (omega arith)
+    ok_holds {E = UnitFault} (λ (b : AnalysisValue). tokens_in b.units ≤ 2 ^ 27) (analysis_and ws all.0.units all.0.table) a all.2 (omega arith)

@@ -7,7 +7,7 @@ most_bytes = 2 ^ 22
 
 -- how many bytes all files may have together
 abbrev pub most_bytes_of_all : ℕ
-most_bytes_of_all = 2 ^ 25
+most_bytes_of_all = 2 ^ 28
 
 -- how many files may be read
 abbrev pub most_files : ℕ
@@ -19,7 +19,7 @@ most_open_files = 200
 
 -- how many units a workspace may have
 abbrev pub most_units : ℕ
-most_units = 1024
+most_units = 8192
 
 -- how many bytes the pseudo file of a unit's settings may have
 abbrev pub most_defines : ℕ
@@ -31,7 +31,7 @@ most_tokens = 2 ^ 22
 
 -- how many tokens all units may have together
 abbrev pub most_tokens_of_all : ℕ
-most_tokens_of_all = 2 ^ 23
+most_tokens_of_all = 2 ^ 27
 
 -- what the replacements of macros in a unit may cost together
 abbrev pub most_work : ℕ

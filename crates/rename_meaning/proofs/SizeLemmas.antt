@@ -231,17 +231,17 @@ module _ (a : Analysed) (members : List Part) (name : List ℕ) (h : IsAllowed a
             subst (λ (k : ℕ). k ≤ most_bytes) (sym same) small
       ]
 
-  full_by : (ms : List Part) → full_place a.value name ms ≡ [] → (m : Part) → In m ms → new_size_of_all a.value name ms ≤ 2 ^ 25
+  full_by : (ms : List Part) → full_place a.value name ms ≡ [] → (m : Part) → In m ms → new_size_of_all a.value name ms ≤ 2 ^ 28
   full_by [] e m i = absurd (let at = i.1 in cc)
-  full_by (x ∷ ms) e m i = not_more (2 ^ 25) (new_size_of_all a.value name (x ∷ ms)) (cond_none (nat_lt (2 ^ 25) (new_size_of_all a.value name (x ∷ ms))) x.start e)
+  full_by (x ∷ ms) e m i = not_more (2 ^ 28) (new_size_of_all a.value name (x ∷ ms)) (cond_none (nat_lt (2 ^ 28) (new_size_of_all a.value name (x ∷ ms))) x.start e)
 
-  all_few : StandTogether members → AreReal a.value.table → (m : Part) → In m members → bytes_opened (edited_from (respelled members name) 0 a.value.table) ≤ 2 ^ 25
+  all_few : StandTogether members → AreReal a.value.table → (m : Part) → In m members → bytes_opened (edited_from (respelled members name) 0 a.value.table) ≤ 2 ^ 28
   unfolding new_size_of_all
   all_few together real m i =
       let all = bytes_le a.value name members 0 a.value.table real in
       let sizes = sizes_of_runs a.value name (length members) members (omega arith) together in
-      let total : kept_sizes members 0 a.value.table + new_sizes a.value name (runs members) ≤ 2 ^ 25 = full_by members full_none m i in
-      join (bytes_opened (edited_from (respelled members name) 0 a.value.table)) (kept_sizes members 0 a.value.table) (edited_sizes a.value name members 0 a.value.table) (new_sizes a.value name (runs members)) (2 ^ 25) all sizes total
+      let total : kept_sizes members 0 a.value.table + new_sizes a.value name (runs members) ≤ 2 ^ 28 = full_by members full_none m i in
+      join (bytes_opened (edited_from (respelled members name) 0 a.value.table)) (kept_sizes members 0 a.value.table) (edited_sizes a.value name members 0 a.value.table) (new_sizes a.value name (runs members)) (2 ^ 28) all sizes total
     where
       join : (B K E N most : ℕ) → B ≤ K + E → E ≤ N → K + N ≤ most → B ≤ most
       join B K E N most all sizes total = omega (arith, all, sizes, total)

@@ -70,12 +70,12 @@ large_here a name (m ∷ run) size x y some is large then =
     rw test then
 
 pub full_here : (a : AnalysisValue) (name : List ℕ) (members : List Part) (total : ℕ) (x y : Option Offence) → 1 ≤ length members
-    → total ≡ min (new_size_of_all a name members) most_size → 2 ^ 25 < total
+    → total ≡ min (new_size_of_all a name members) most_size → 2 ^ 28 < total
     → FirstThen a.table (offence cause.TooLarge (get_or members 0 no_part).start ∷ []) x y
     → FirstThen a.table (standing cause.TooLarge (full_place a name members)) x y
 full_here a name [] total x y some is large then = absurd (omega (arith, some))
 full_here a name (m ∷ members) total x y some is large then =
-    let test : nat_lt (2 ^ 25) (new_size_of_all a name (m ∷ members)) ≡ true = lt-ltb (2 ^ 25) (new_size_of_all a name (m ∷ members)) (omega (arith, is, large)) in
+    let test : nat_lt (2 ^ 28) (new_size_of_all a name (m ∷ members)) ≡ true = lt-ltb (2 ^ 28) (new_size_of_all a name (m ∷ members)) (omega (arith, is, large)) in
     rw test then
 
 -- ---- runs

@@ -83,7 +83,7 @@ abbrev pub large_place : AnalysisValue → List ℕ → List Part → List Pos
 large_place a name [] = []
 large_place a name (m ∷ run) = if is_too_large a name (m ∷ run) then m.start ∷ [] else []
 
--- where the first member of all stands, if the files together would have more than 2^25
+-- where the first member of all stands, if the files together would have more than 2^28
 abbrev pub full_place : AnalysisValue → List ℕ → List Part → List Pos
 full_place a name [] = []
 full_place a name (m ∷ members) = if nat_lt most_bytes_of_all (new_size_of_all a name (m ∷ members)) then m.start ∷ [] else []

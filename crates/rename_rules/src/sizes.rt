@@ -253,7 +253,7 @@ fn too_large_in(
 }
 
 /// `TooLarge`: at the first member of each file that would grow past 2^22 bytes, and at the first of all where the
-/// files together would pass 2^25.
+/// files together would pass 2^28.
 pub fn too_large(
     alloc: Global,
     renaming: &Renaming<'_>,

@@ -184,7 +184,7 @@ files-edited zero bytes (e ∷ table) = first e.found
 files-edited (suc number) bytes (e ∷ table) = ap (one_more (opened_bytes e.found)) (files-edited number bytes table)
 
 pub cache-edited : (old new : Table) (number : ℕ) (bytes : List ℕ) (files all all' toks : ℕ) → IsCache old files all toks → new ≡ edited number bytes old
-    → all' ≡ bytes_with all (size_at old number) (length bytes) → all' ≤ 2 ^ 25 → IsCache new files all' toks
+    → all' ≡ bytes_with all (size_at old number) (length bytes) → all' ≤ 2 ^ 28 → IsCache new files all' toks
 cache-edited old new number bytes files all all' toks is same with few =
     let measured : bytes_with all (size_at old number) (length bytes) ≡ bytes_opened (edited number bytes old) =
     ap (λ (n : ℕ). bytes_with n (size_at old number) (length bytes)) is.measured ∙ sym (bytes-edited number bytes old) in
@@ -235,18 +235,18 @@ size-slot paths slots (suc i) s is place same =
 
 -- ---- the step of the cache
 
-pub edit-much : (table : Table) (number : ℕ) (bytes : List ℕ) (all : ℕ) → all ≡ bytes_with (bytes_opened table) (size_at table number) (length bytes) → 2 ^ 25 < all
+pub edit-much : (table : Table) (number : ℕ) (bytes : List ℕ) (all : ℕ) → all ≡ bytes_with (bytes_opened table) (size_at table number) (length bytes) → 2 ^ 28 < all
     → edited_of number bytes table ≡ Err TooManyBytes
 edit-much table number bytes all with much =
     let more : nat_lt the_limits.all_bytes (bytes_opened (edited number bytes table)) ≡ true =
-    lt-ltb (2 ^ 25) (bytes_opened (edited number bytes table)) (rw (bytes-edited number bytes table) (rw with at much)) in
+    lt-ltb (2 ^ 28) (bytes_opened (edited number bytes table)) (rw (bytes-edited number bytes table) (rw with at much)) in
     rw more refl
 
-pub edit-fits : (table : Table) (number : ℕ) (bytes : List ℕ) (all : ℕ) → all ≡ bytes_with (bytes_opened table) (size_at table number) (length bytes) → all ≤ 2 ^ 25
+pub edit-fits : (table : Table) (number : ℕ) (bytes : List ℕ) (all : ℕ) → all ≡ bytes_with (bytes_opened table) (size_at table number) (length bytes) → all ≤ 2 ^ 28
     → edited_of number bytes table ≡ edited_as (edited number bytes table) (file_text number bytes)
 edit-fits table number bytes all with few =
     let fits : nat_lt the_limits.all_bytes (bytes_opened (edited number bytes table)) ≡ false =
-    le-ltb (2 ^ 25) (bytes_opened (edited number bytes table)) (rw (bytes-edited number bytes table) (rw with at few)) in
+    le-ltb (2 ^ 28) (bytes_opened (edited number bytes table)) (rw (bytes-edited number bytes table) (rw with at few)) in
     rw fits refl
 
 pub edit-refused : (o : Option LexFault) (table : Table) (number : ℕ) (bytes : List ℕ)

@@ -98,24 +98,24 @@ module _ (place : Place) (path bytes : List ℕ) (t : Table) (unread : found_at 
   few_files : files_opened t < 4096 → nat_le 4096 (files_opened t) ≡ false
   few_files few = grind (arith, leb_tells 4096 (files_opened t), few)
 
-  many_bytes : length bytes ≤ 2 ^ 22 → 2 ^ 25 < bytes_opened t + length bytes → are_too_many the_limits file_text path bytes t ≡ true
+  many_bytes : length bytes ≤ 2 ^ 22 → 2 ^ 28 < bytes_opened t + length bytes → are_too_many the_limits file_text path bytes t ≡ true
   many_bytes small many =
       let e : nat_lt (2 ^ 22) (length bytes) ≡ false = grind (arith, leb_tells (suc (2 ^ 22)) (length bytes), small) in
-      let f : nat_lt (2 ^ 25) (bytes_opened t + length bytes) ≡ true = grind (arith, leb_tells (suc (2 ^ 25)) (bytes_opened t + length bytes), many) in
+      let f : nat_lt (2 ^ 28) (bytes_opened t + length bytes) ≡ true = grind (arith, leb_tells (suc (2 ^ 28)) (bytes_opened t + length bytes), many) in
       let g : is_too_large (file_text (number_of path t) bytes) ≡ false = too_large-file (number_of path t) bytes ∙ e in
       rw (g, f) refl
 
-  pub opening-bytes : files_opened t < 4096 → length bytes ≤ 2 ^ 22 → 2 ^ 25 < bytes_opened t + length bytes
+  pub opening-bytes : files_opened t < 4096 → length bytes ≤ 2 ^ 22 → 2 ^ 28 < bytes_opened t + length bytes
       → opening the_limits file_text place path t ≡ Err (fault place TooManyBytes)
   opening-bytes few small many = opening-first ∙ rw (few_files few, many_bytes small many) refl
 
-  large_or_few : (2 ^ 22 < length bytes) ⊎ (bytes_opened t + length bytes ≤ 2 ^ 25) → are_too_many the_limits file_text path bytes t ≡ false
+  large_or_few : (2 ^ 22 < length bytes) ⊎ (bytes_opened t + length bytes ≤ 2 ^ 28) → are_too_many the_limits file_text path bytes t ≡ false
   large_or_few (inl large) =
       let e : nat_lt (2 ^ 22) (length bytes) ≡ true = grind (arith, leb_tells (suc (2 ^ 22)) (length bytes), large) in
       let g : is_too_large (file_text (number_of path t) bytes) ≡ true = too_large-file (number_of path t) bytes ∙ e in
       rw g refl
   large_or_few (inr few) =
-      let f : nat_lt (2 ^ 25) (bytes_opened t + length bytes) ≡ false = grind (arith, leb_tells (suc (2 ^ 25)) (bytes_opened t + length bytes), few) in
+      let f : nat_lt (2 ^ 28) (bytes_opened t + length bytes) ≡ false = grind (arith, leb_tells (suc (2 ^ 28)) (bytes_opened t + length bytes), few) in
       rw f (and-no (not (is_too_large (file_text (number_of path t) bytes))))
     where
       and-no : (b : Bool) → (b && false) ≡ false
@@ -123,7 +123,7 @@ module _ (place : Place) (path bytes : List ℕ) (t : Table) (unread : found_at 
       and-no false = refl
 
   -- otherwise it is what the text says
-  pub opening-text : files_opened t < 4096 → (2 ^ 22 < length bytes) ⊎ (bytes_opened t + length bytes ≤ 2 ^ 25)
+  pub opening-text : files_opened t < 4096 → (2 ^ 22 < length bytes) ⊎ (bytes_opened t + length bytes ≤ 2 ^ 28)
       → opening the_limits file_text place path t ≡ file_read place (number_of path t) path (opened path bytes t) (file_text (number_of path t) bytes)
   opening-text few fits =
       opening-first ∙ rw (few_files few, large_or_few fits)
@@ -153,10 +153,10 @@ module _ (t : Table) (path : List ℕ) (number size : ℕ) (unread : IsUnread t 
       omega (arith, readable-small (number_of path t) unread.1.0 e, unread.1.2)
 
   pub cache-opened : (new : Table) (files bytes toks : ℕ) → IsCache t files bytes toks → ◌≡◌ new (opened path (unread_bytes (found_at path t)) t)
-      → files < 4096 → size ≤ 2 ^ 22 → (2 ^ 22 < size) ⊎ (bytes + size ≤ 2 ^ 25) → IsCache new (files + 1) (bytes + size) toks
+      → files < 4096 → size ≤ 2 ^ 22 → (2 ^ 22 < size) ⊎ (bytes + size ≤ 2 ^ 28) → IsCache new (files + 1) (bytes + size) toks
   cache-opened new files bytes toks is e few small fits =
       let n : new ≡ opened path unread.1.0 t = rw unread.1.1 at e in
-      let room : bytes + size ≤ 2 ^ 25 = elim fits [ inl large ↦ absurd (omega (arith, large, small)) | inr room ↦ room ] in
+      let room : bytes + size ≤ 2 ^ 28 = elim fits [ inl large ↦ absurd (omega (arith, large, small)) | inr room ↦ room ] in
       rw n (record {
         counted = omega (arith, is.counted, files-opened path unread.1.0 t unread.1.1);
         measured = omega (arith, is.measured, bytes-opened path unread.1.0 t unread.1.1, unread.1.2);
@@ -166,17 +166,17 @@ module _ (t : Table) (path : List ℕ) (number size : ℕ) (unread : IsUnread t 
       })
 
   -- what opening gives where neither files nor bytes are too many
-  pub opening-read : (place : Place) (files bytes toks : ℕ) → IsCache t files bytes toks → files < 4096 → (2 ^ 22 < size) ⊎ (bytes + size ≤ 2 ^ 25)
+  pub opening-read : (place : Place) (files bytes toks : ℕ) → IsCache t files bytes toks → files < 4096 → (2 ^ 22 < size) ⊎ (bytes + size ≤ 2 ^ 28)
       → opening the_limits file_text place path t ≡ file_read place number path (opened path (unread_bytes (found_at path t)) t) (file_text number (unread_bytes (found_at path t)))
   opening-read place files bytes toks is few fits =
-      let room : (2 ^ 22 < length unread.1.0) ⊎ (bytes_opened t + length unread.1.0 ≤ 2 ^ 25) =
+      let room : (2 ^ 22 < length unread.1.0) ⊎ (bytes_opened t + length unread.1.0 ≤ 2 ^ 28) =
       elim fits [ inl large ↦ inl (omega (arith, large, unread.1.2)) | inr room ↦ inr (omega (arith, room, unread.1.2, is.measured)) ] in
       let e : opening the_limits file_text place path t ≡ file_read place (number_of path t) path (opened path unread.1.0 t) (file_text (number_of path t) unread.1.0) =
       opening-text place path unread.1.0 t unread.1.1 (omega (arith, few, is.counted)) room in
       let b : unread_bytes (found_at path t) ≡ unread.1.0 = ap unread_bytes unread.1.1 in
       rw b (rw unread.0 at e)
 
-  pub opening-much : (place : Place) (files bytes toks : ℕ) → IsCache t files bytes toks → files < 4096 → size ≤ 2 ^ 22 → 2 ^ 25 < bytes + size
+  pub opening-much : (place : Place) (files bytes toks : ℕ) → IsCache t files bytes toks → files < 4096 → size ≤ 2 ^ 22 → 2 ^ 28 < bytes + size
       → opening the_limits file_text place path t ≡ Err (fault place TooManyBytes)
   opening-much place files bytes toks is few small many =
       opening-bytes place path unread.1.0 t unread.1.1 (omega (arith, few, is.counted)) (omega (arith, small, unread.1.2)) (omega (arith, many, unread.1.2, is.measured))

@@ -4,7 +4,7 @@ use lexer::LexRefusal;
 /// What `Cache::edit` answers where it leaves a file as it is, in the order in which it looks.
 #[derive(Drop)]
 pub enum EditRefusal {
-    /// All opened files would have more than 2^25 bytes.
+    /// All opened files would have more than 2^28 bytes.
     TooManyBytes,
     /// The new bytes are no text, or memory ran out.
     Unread(LexRefusal),

@@ -44,12 +44,12 @@ const SETTINGS: &str = "\
     include A$65386$fits%\
     include A$65387$bad 2";
 
-// What follows 1,024 units, and what is refused.
+// What follows 8,192 units, and what is refused.
 const BEHIND: &str = "\
-    file a$many 1025%\
-    file <$bad 1025%\
-    file a\nbad$many 1025%\
-    bad\nfile a$bad 1025";
+    file a$many 8193%\
+    file <$bad 8193%\
+    file a\nbad$many 8193%\
+    bad\nfile a$bad 8193";
 
 // What a file says: its workspace as it is printed, or the line that is refused.
 fn shown(alloc: Global, file: &[u8]) -> Result<Vec<u8>, Fail> {
@@ -119,26 +119,26 @@ fn a_pseudo_file_has_two_to_the_16_bytes_at_most(rt: HostRuntime) -> Result<(), 
     Ok(())
 }
 
-// A file of 1,024 units.
+// A file of 8,192 units.
 fn many(alloc: Global) -> Result<Vec<u8>, AllocError> {
     let mut file = Vec::new(alloc);
-    for _ in 0..1024 {
+    for _ in 0..8192 {
         file.extend_from_slice(b"file a\n")?;
     }
     Ok(file)
 }
 
 #[test]
-fn there_are_1024_units_at_most(rt: HostRuntime) -> Result<(), Fail> {
+fn there_are_8192_units_at_most(rt: HostRuntime) -> Result<(), Fail> {
     let alloc = rt.alloc();
     let file = many(alloc)?;
     let ws = read_ws(alloc, file.as_slice())?;
     let copy = ws.copy(alloc)?;
-    assert_eq!(rt; copy.units().len(), 1024);
+    assert_eq!(rt; copy.units().len(), 8192);
     Ok(())
 }
 
-// What is told where this follows 1,024 units.
+// What is told where this follows 8,192 units.
 fn told_behind(alloc: Global, end: &str) -> Result<Vec<u8>, Fail> {
     let mut file = many(alloc)?;
     file.extend_from_slice(end.as_bytes())?;
@@ -146,7 +146,7 @@ fn told_behind(alloc: Global, end: &str) -> Result<Vec<u8>, Fail> {
 }
 
 #[test]
-fn a_unit_behind_1024_is_named(rt: HostRuntime) -> Result<(), Fail> {
+fn a_unit_behind_8192_is_named(rt: HostRuntime) -> Result<(), Fail> {
     let alloc = rt.alloc();
     for row in BEHIND.split('%') {
         let (end, want) = cut(row);

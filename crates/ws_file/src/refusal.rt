@@ -10,7 +10,7 @@ pub enum WsRefusal {
     /// The line is none that a workspace file may have.
     #[error("BadLine")]
     BadLine { line: u32 },
-    /// The line is the 1,025th `file` line.
+    /// The line is the 8,193rd `file` line.
     #[error("TooManyUnits")]
     TooManyUnits { line: u32 },
     #[error("Memory")]
