@@ -16,7 +16,9 @@ pub mod FirstLineLemmas
 pub mod ToldLemmas
 pub mod LineOddsLemmas
 pub mod PlaceLemmas
+pub mod WholeLemmas
 pub mod CalleeLemmas
+pub mod ParameterLemmas
 pub mod NameLemmas
 pub mod CoverLemmas
 pub mod ListLemmas

@@ -39,15 +39,15 @@ use Rattle.template_rules.specs.Units.{IsUnit, AreUnits, found_of}
 -- ---- one unit
 
 abbrev pub declarators_of : UnitFunctions → List Declarator
-declarators_of f = flat_map (declarator_of f.class.members f.text.now.toks f.bound.now.names f.lists.items) f.bound.now.names
+declarators_of f = flat_map (declarator_of f.class.members f.text.now.toks f.bound.now.names f.lists) f.bound.now.names
 
 abbrev pub names_of : UnitFunctions → List Offence
 names_of f =
-    flat_map (name_offences f.class.members f.text.now.toks f.bound.now.names f.bound.now.calls f.lists.items) f.bound.now.names
+    flat_map (name_offences f.class.members f.text.now.toks f.bound.now.names f.bound.now.calls f.lists) f.bound.now.names
 
 abbrev pub marks_of : AnalysisValue → ℕ → UnitFunctions → List Offence
 marks_of a count f =
-    flat_map (declarator_marks f.class.members a count f.text.now.toks f.text.now.reached f.bound.now.names f.lists.items) f.bound.now.declarators
+    flat_map (declarator_marks f.class.members a count f.text.now.toks f.text.now.reached f.bound.now.names f.lists) f.bound.now.declarators
     ++ flat_map (call_marks f.class.members a count f.text.now.toks f.text.now.reached f.bound.now.names) f.bound.now.calls
 
 abbrev pub macro_names_of : UnitFunctions → List Offence
@@ -65,7 +65,7 @@ spellings_of f = flat_map (declared_text f.class.members f.text.now.toks f.bound
 
 abbrev pub offences_at : ClassValue → List Pos → UnitFunctions → List Offence
 offences_at class odds f =
-    flat_map (declarator_offences class.members class.analysis.value odds f.text.now f.bound.now f.lists.items) f.bound.now.declarators
+    flat_map (declarator_offences class.members class.analysis.value odds f.text.now f.bound.now f.lists) f.bound.now.declarators
     ++ flat_map (call_offences class.members class.analysis.value odds f.text.now f.bound.now f.ends.items) f.bound.now.calls
 
 -- the same of all elements gives the same of a list
@@ -115,10 +115,10 @@ module _ (class : ClassValue) (u : UnitAnalysis) (f : UnitFunctions) (own : f.cl
 
   -- the parameter lists are those of the tree, or do not matter
   by_lists : {X : Type 0} (h : List ParameterList → X) → (None_there → (p q : List ParameterList) → h p ≡ h q)
-      → h f.lists.items ≡ h (parameters_in u.tree.under)
+      → h f.lists ≡ h (parameters_in u.tree.under)
   by_lists h any =
       elim is.of_tree [
-        | inl bare ↦ any bare f.lists.items (parameters_in u.tree.under)
+        | inl bare ↦ any bare f.lists (parameters_in u.tree.under)
         | inr some ↦ ap h some.0
       ]
 

@@ -18,7 +18,7 @@ AreOfTree u lists ends = (lists ≡ parameters_in u.tree.under) × (ends ≡ bod
 pub record IsUnit (u : UnitAnalysis) (f : UnitFunctions) : Type 0 where
   pub of_text : f.text.now ≡ u.text
   pub of_bound : f.bound.now ≡ u.bound
-  pub of_tree : (f.entities ≡ []) ⊎ AreOfTree u f.lists.items f.ends.items
+  pub of_tree : (f.entities ≡ []) ⊎ AreOfTree u f.lists f.ends.items
 
 -- it is unit number k of these, from 0
 abbrev pub IsUnitAt : List UnitAnalysis → ℕ → UnitFunctions → Type 0

@@ -1,12 +1,12 @@
 // How many parameters the functions have that a class names.
 ghost use Rattle.std.specs.Prelude.{◌≡◌, ◌+◌};
-ghost use Rattle.template_rules.specs.Lists.{has_types, declarations_in, parameters_at, parameters_of, arguments_of, declarator_of, declarators_in, sooner, soonest, first_declarator, count_of};
+ghost use Rattle.template_rules.specs.Lists.{has_types, declarations_in, parameters_of, arguments_of, declarator_of, declarators_in, sooner, soonest, first_declarator, count_of};
 ghost use Rattle.std.specs.List.{flat_map};
-ghost use Rattle.std.specs.Option.{option_copied};
 
 use crate::functions::Functions;
 use crate::places::origin_of;
 use crate::unit_functions::{UnitFunctions, declares_function};
+use crate::unit_parameters::UnitParameters;
 use analysis::{Analysis, Name};
 use c_types::{List, ParameterForm, ParameterList};
 use cs_base::Pos;
@@ -39,23 +39,11 @@ fn declarations_in(list: &ParameterList) -> usize
     }
 }
 
-/// The parameters of the declarator whose name is token `k`, if it has a list.
-pub(crate) fn parameters_at(lists: &[ParameterList], k: u32) -> Option<&ParameterList>
-    ensures { option_copied result ≡ parameters_at lists.now k }
-{
-    for list in lists {
-        if list.name == k {
-            return Some(list);
-        }
-    }
-    None
-}
-
-/// How many parameter declarations it has.
-pub(crate) fn parameters_of(lists: &[ParameterList], k: u32) -> usize
+/// How many parameter declarations the declarator has whose name is token `k`.
+pub(crate) fn parameters_of(lists: &UnitParameters, k: u32) -> usize
     ensures { result ≡ parameters_of lists.now k }
 {
-    match parameters_at(lists, k) {
+    match lists.of_name(k) {
         Some(list) => declarations_in(list),
         None => 0,
     }
@@ -93,7 +81,7 @@ fn with_name(
     name: Name,
 ) -> Option<Declarator>
     ensures { result ≡ soonest a.now.value.table best
-        (declarator_of unit.now.class.members unit.now.text.now.toks unit.now.bound.now.names unit.now.lists.items name) }
+        (declarator_of unit.now.class.members unit.now.text.now.toks unit.now.bound.now.names unit.now.lists name) }
 {
     if !declares_function(unit, name) {
         return best;
@@ -115,7 +103,7 @@ fn with_names(
     best: Option<Declarator>,
 ) -> Option<Declarator>
     ensures { result ≡ soonest a.now.value.table best (flat_map
-        (declarator_of unit.now.class.members unit.now.text.now.toks unit.now.bound.now.names unit.now.lists.items) names.now) }
+        (declarator_of unit.now.class.members unit.now.text.now.toks unit.now.bound.now.names unit.now.lists) names.now) }
 {
     let mut now = best;
     for name in names {

@@ -8,10 +8,10 @@ ghost use Rattle.offences.specs.First.{standing, FirstThen};
 ghost use Rattle.template_rules.specs.Lists.{separators};
 ghost use Rattle.template_rules.specs.ScopeOffences.{is_ordinary, uses_ordinary, is_used_at, is_use, is_spelled_as, dependence_place, dependence_between, dependence_in, dependence_places};
 
-use crate::counting::parameters_at;
 use crate::places::at_token;
+use crate::unit_parameters::UnitParameters;
 use analysis::{Analysis, Name};
-use c_types::{EntityKind, List, ParameterList};
+use c_types::{EntityKind, List};
 use cs_base::{Cause, Tok};
 use offences::Offence;
 
@@ -210,13 +210,13 @@ pub(crate) fn dependences_at(
     toks: &[Tok],
     names: &[Name],
     bare: &[u32],
-    lists: &[ParameterList],
+    lists: &UnitParameters,
     list: &List,
     first: Option<Offence>,
 ) -> Option<Offence>
     ensures { FirstThen a.now.value.table (standing cause.ParameterDependence (dependence_places toks.now names.now bare.now lists.now list.now)) first result }
 {
-    match parameters_at(lists, list.name) {
+    match lists.of_name(list.name) {
         Some(parameters) => {
             dependences_of(
                 a,

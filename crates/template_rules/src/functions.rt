@@ -11,6 +11,7 @@ use crate::body_lists::body_lists;
 use crate::covers::Covers;
 use crate::run_list::Runs;
 use crate::unit_functions::{UnitFunctions, by_place, has, push_named};
+use crate::unit_parameters::UnitParameters;
 use analysis::{Analysis, Name};
 use c_types::{EntityKind, Indices, ParameterList, parameter_lists};
 use cs_base::{Memory, Part, Tok};
@@ -161,7 +162,8 @@ fn unit_at<'a>(
     let text = a.text(unit);
     let bound = a.bound(unit);
     let entities = functions_of(alloc, &class, text.toks(), bound.names())?;
-    let (lists, ends) = lists_of(alloc, a, unit, entities.as_slice())?;
+    let (parameters, ends) = lists_of(alloc, a, unit, entities.as_slice())?;
+    let lists = UnitParameters::new(parameters);
     let mut found = Vec::new(alloc);
     push_named(&mut found, bound, entities.as_slice(), bound.declarators())?;
     push_named(&mut found, bound, entities.as_slice(), bound.calls())?;

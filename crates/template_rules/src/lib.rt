@@ -35,6 +35,7 @@ mod odd_tokens;
 mod places;
 mod run_list;
 mod unit_functions;
+mod unit_parameters;
 
 pub use counting::{Declarator, first_declarator, parameter_count};
 pub use file_edits::edit_files;

@@ -14,7 +14,9 @@ use crate::functions::Functions;
 use crate::item_units::{ItemUnits, is_between, is_item};
 use crate::places::{at_token, origin_of};
 use crate::run_list::Runs;
-use crate::unit_functions::{UnitFunctions, lists_before, name_number, names_function};
+use crate::unit_functions::{
+    UnitFunctions, lists_before, lists_before_run, name_number, names_function,
+};
 use analysis::Reached;
 use c_types::List;
 use cs_base::{Cause, Pos, Tok};
@@ -184,6 +186,59 @@ fn are_lists_for(
     true
 }
 
+// Whether a list of one of the functions stands at the positions of another, and all its marks were put out for this run.
+fn is_whole_at(
+    unit: &UnitFunctions<'_>,
+    toks: &[Tok],
+    list: &List,
+    number: usize,
+    other: &List,
+) -> bool
+    ensures { result ≡ true → each_mark
+        (λ k. is_list_at unit.now.class.members toks.now list.now k unit.now.text.now unit.now.bound.now.names number other.now) list.now ≡ true }
+{
+    let others = unit.text.toks();
+    is_same_list(toks, others, list, other)
+        && (names_function(unit, other.name) && is_of_run(&unit.runs, number, other))
+}
+
+// Whether it has such a list for all marks of a list: the one whose name was put out for this run is looked for by halving.
+fn is_whole_in(unit: &UnitFunctions<'_>, toks: &[Tok], list: &List, number: usize) -> bool
+    ensures { result ≡ true → each_mark
+        (λ k. is_list_in unit.now.class.members toks.now list.now k unit.now.text.now unit.now.bound.now number) list.now ≡ true }
+{
+    let found = unit.by_place.as_slice();
+    let others = unit.text.toks();
+    let name = name_number(toks, list);
+    let at = lists_before_run(others, &unit.runs, found, name, number);
+    if at >= found.len() {
+        return false;
+    }
+    is_whole_at(unit, toks, list, number, found[at])
+}
+
+// Whether it has one for each mark, asked one after another.
+fn has_each(unit: &UnitFunctions<'_>, toks: &[Tok], list: &List, number: usize) -> bool
+    ensures { result ≡ each_mark
+        (λ k. is_list_in unit.now.class.members toks.now list.now k unit.now.text.now unit.now.bound.now number) list.now }
+{
+    is_list_in(unit, toks, list, list.name, number)
+        && (is_list_in(unit, toks, list, list.begin, number)
+            && (are_lists_for(unit, toks, list, list.commas.as_slice(), number)
+                && is_list_in(unit, toks, list, list.close, number)))
+}
+
+// The same: mostly one list serves all of them.
+fn has_all(unit: &UnitFunctions<'_>, toks: &[Tok], list: &List, number: usize) -> bool
+    ensures { result ≡ each_mark
+        (λ k. is_list_in unit.now.class.members toks.now list.now k unit.now.text.now unit.now.bound.now number) list.now }
+{
+    if is_whole_in(unit, toks, list, number) {
+        return true;
+    }
+    has_each(unit, toks, list, number)
+}
+
 // Whether it has such lists for the marks that are asked for.
 fn are_lists_in(
     unit: &UnitFunctions<'_>,
@@ -197,12 +252,7 @@ fn are_lists_in(
 {
     match asked {
         Asked::Mark(k) => is_list_in(unit, toks, list, k, number),
-        Asked::All => {
-            is_list_in(unit, toks, list, list.name, number)
-                && (is_list_in(unit, toks, list, list.begin, number)
-                    && (are_lists_for(unit, toks, list, list.commas.as_slice(), number)
-                        && is_list_in(unit, toks, list, list.close, number)))
-        }
+        Asked::All => has_all(unit, toks, list, number),
     }
 }
 

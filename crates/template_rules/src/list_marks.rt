@@ -114,7 +114,7 @@ fn at_declarator(
     first: Option<Offence>,
 ) -> Option<Offence>
     ensures { FirstThen a.now.value.table (declarator_marks unit.now.class.members a.now.value count unit.now.text.now.toks
-        unit.now.text.now.reached unit.now.bound.now.names unit.now.lists.items list.now) first result }
+        unit.now.text.now.reached unit.now.bound.now.names unit.now.lists list.now) first result }
 {
     if names_function(unit, list.name) {
         marks_at(
@@ -166,7 +166,7 @@ fn at_declarators(
     first: Option<Offence>,
 ) -> Option<Offence>
     ensures { FirstThen a.now.value.table (flat_map (declarator_marks unit.now.class.members a.now.value count
-        unit.now.text.now.toks unit.now.text.now.reached unit.now.bound.now.names unit.now.lists.items) all.now) first result }
+        unit.now.text.now.toks unit.now.text.now.reached unit.now.bound.now.names unit.now.lists) all.now) first result }
 {
     let mut now = first;
     for list in all {

@@ -51,7 +51,7 @@ fn declarator_at(
     requires near { AreWithin functions.now.analysis.value.units near }
     requires odds { AreOdd functions.now.analysis.value.table (odd_positions functions.now.analysis.value.table) odds.now }
     ensures { FirstThen functions.now.analysis.value.table (declarator_offences functions.now.members
-        functions.now.analysis.value (odd_positions functions.now.analysis.value.table) unit.now.text.now unit.now.bound.now unit.now.lists.items list.now) first result }
+        functions.now.analysis.value (odd_positions functions.now.analysis.value.table) unit.now.text.now unit.now.bound.now unit.now.lists list.now) first result }
 {
     if names_function(unit, list.name) {
         let named = list_at(functions, odds, unit, list, near, first);
@@ -103,7 +103,7 @@ fn at_declarators(
     requires class { unit.now.class ≡ functions.now }
     requires odds { AreOdd functions.now.analysis.value.table (odd_positions functions.now.analysis.value.table) odds.now }
     ensures { FirstThen functions.now.analysis.value.table (flat_map (declarator_offences functions.now.members
-        functions.now.analysis.value (odd_positions functions.now.analysis.value.table) unit.now.text.now unit.now.bound.now unit.now.lists.items) all.now) first result }
+        functions.now.analysis.value (odd_positions functions.now.analysis.value.table) unit.now.text.now unit.now.bound.now unit.now.lists) all.now) first result }
 {
     let mut now = first;
     let mut near = all_units(functions);

@@ -8,12 +8,12 @@ ghost use Rattle.offences.specs.First.{standing, FirstThen};
 ghost use Rattle.template_rules.specs.NameOffences.{has_prototype, is_prototype, no_prototype_place, value_place, name_offences, all_names};
 
 use crate::callees::{calls_rise, is_callee};
-use crate::counting::parameters_at;
 use crate::functions::{Functions, holds_at};
 use crate::places::at_token;
 use crate::unit_functions::{UnitFunctions, declares_function};
+use crate::unit_parameters::UnitParameters;
 use analysis::{Analysis, Name};
-use c_types::{ParameterForm, ParameterList};
+use c_types::ParameterForm;
 use cs_base::Cause;
 use offences::Offence;
 
@@ -26,10 +26,10 @@ fn is_prototype(form: ParameterForm) -> bool
     }
 }
 
-fn has_prototype(lists: &[ParameterList], k: u32) -> bool
+fn has_prototype(lists: &UnitParameters, k: u32) -> bool
     ensures { result ≡ has_prototype lists.now k }
 {
-    match parameters_at(lists, k) {
+    match lists.of_name(k) {
         Some(list) => is_prototype(list.form),
         None => false,
     }
@@ -43,7 +43,7 @@ fn no_prototype_at(
     first: Option<Offence>,
 ) -> Option<Offence>
     ensures { FirstThen a.now.value.table (standing cause.NoPrototype
-        (no_prototype_place unit.now.class.members unit.now.text.now.toks unit.now.bound.now.names unit.now.lists.items name)) first result }
+        (no_prototype_place unit.now.class.members unit.now.text.now.toks unit.now.bound.now.names unit.now.lists name)) first result }
 {
     if declares_function(unit, name) && !has_prototype(&unit.lists, name.index) {
         at_token(a, unit.text.toks(), name.index, Cause::NoPrototype, first)
@@ -92,7 +92,7 @@ fn at_name(
 ) -> Option<Offence>
     requires { rises ≡ true → IsNonDecreasingBy (λ (l : NameList). l.name) unit.now.bound.now.calls }
     ensures { FirstThen a.now.value.table (name_offences unit.now.class.members unit.now.text.now.toks
-        unit.now.bound.now.names unit.now.bound.now.calls unit.now.lists.items name) first result }
+        unit.now.bound.now.names unit.now.bound.now.calls unit.now.lists name) first result }
 {
     let lacking = no_prototype_at(a, unit, name, first);
     value_at(a, unit, name, rises, lacking)
@@ -106,7 +106,7 @@ fn at_unit_names(
     first: Option<Offence>,
 ) -> Option<Offence>
     ensures { FirstThen a.now.value.table (flat_map (name_offences unit.now.class.members unit.now.text.now.toks
-        unit.now.bound.now.names unit.now.bound.now.calls unit.now.lists.items) names.now) first result }
+        unit.now.bound.now.names unit.now.bound.now.calls unit.now.lists) names.now) first result }
 {
     let rises = calls_rise(unit.bound.calls());
     let mut now = first;

@@ -1,19 +1,21 @@
 // The functions of a unit that a class names.
 ghost use Rattle.std.specs.Borrow.{Bor};
-ghost use Rattle.std.specs.Prelude.{◌≡◌, ◌==◌, ◌++◌, ◌<◌, ◌≤◌, ◌∷◌, [], ℕ, Some, false, filter, length, map, slice_get, IfOk, OnOk};
+ghost use Rattle.std.specs.Prelude.{◌≡◌, ◌==◌, ◌++◌, ◌<◌, ◌≤◌, ◌∷◌, ◌&&◌, ◌||◌, [], ℕ, Some, false, nat_lt, filter, length, map, slice_get, IfOk, OnOk};
 ghost use Rattle.std.specs.List.{list_any};
 ghost use Rattle.std.specs.List.Sorted.{IsNonDecreasingBy};
 ghost use Rattle.std.specs.Option.{option_map_or};
 ghost use Rattle.analysis.specs.Below.scope_bind.Names.{entity_at};
 ghost use Rattle.c_types.specs.declared.lists.List.{List as NameList};
 ghost use Rattle.template_rules.specs.ListPlaces.{HaveSame, name_number};
+ghost use Rattle.template_rules.specs.MacroOffences.{run_of};
 ghost use Rattle.template_rules.specs.Functions.{names_function, declares_function, is_list_of, AreFunctionsOf};
 
 use crate::covers::Covers;
 use crate::places::origin_of;
 use crate::run_list::Runs;
+use crate::unit_parameters::UnitParameters;
 use analysis::{Bound, Name, UnitText};
-use c_types::{Indices, List, ParameterList};
+use c_types::{Indices, List};
 use cs_base::{Memory, Tok};
 use offences::Class;
 use std::alloc::Global;
@@ -31,7 +33,7 @@ pub(crate) struct UnitFunctions<'a> {
     pub(crate) text: &'a UnitText,
     pub(crate) bound: &'a Bound,
     pub(crate) entities: Indices,
-    pub(crate) lists: Vec<ParameterList>,
+    pub(crate) lists: UnitParameters,
     pub(crate) ends: Vec<u32>,
     pub(crate) found: Vec<&'a List>,
     pub(crate) by_place: Vec<&'a List>,
@@ -63,6 +65,28 @@ pub(crate) fn lists_before(toks: &[Tok], lists: &[&List], number: u64) -> usize
     ensures others { (i : ℕ) (l : Bor NameList) → slice_get lists.now i ≡ Some l → result ≤ i → number ≤ name_number toks.now l.now }
 {
     lists.partition_point(|list| name_number(toks, list) < number)
+}
+
+// Whether a list has a lower number, or this one and a name that was put out for a run before this one.
+fn is_before_run(toks: &[Tok], runs: &Runs<'_>, list: &List, number: u64, run: usize) -> bool
+    ensures { result ≡ (nat_lt (name_number toks.now list.now) number
+        || ((name_number toks.now list.now == number) && nat_lt (run_of runs.now list.now.name) run)) }
+{
+    let at = name_number(toks, list);
+    at < number || (at == number && runs.run_of(list.name) < run)
+}
+
+/// How many of these lists do, where they stand in this order.
+pub(crate) fn lists_before_run(
+    toks: &[Tok],
+    runs: &Runs<'_>,
+    lists: &[&List],
+    number: u64,
+    run: usize,
+) -> usize
+    ensures { result ≤ length lists.now }
+{
+    lists.partition_point(|list| is_before_run(toks, runs, list, number, run))
 }
 
 /// Lists in this order.

@@ -14,5 +14,5 @@ pub returns-in-Some : goal.returns-in-Some
 returns-in-Some c =
     let table = c.args.a.now.value.table in
     let at = c.in-Some.at in
-    let found = c.sooner.ensures ∙ ap (λ (n : ℕ). sooner table c.args.best (declarator n at)) (rw c.deref.ensures.value at c.parameters_of-count.ensures) in
-    rw (← c.if-not-declares_function.ensures, ← (rw c.toks.ensures at c.in-Some.ensures)) (ap (λ (d : Declarator). Some d) found ∙ soonest-one table c.args.best (declarator (parameters_of c.args.unit.now.lists.items c.args.name.index) at))
+    let found = c.sooner.ensures ∙ ap (λ (n : ℕ). sooner table c.args.best (declarator n at)) c.parameters_of-count.ensures in
+    rw (← c.if-not-declares_function.ensures, ← (rw c.toks.ensures at c.in-Some.ensures)) (ap (λ (d : Declarator). Some d) found ∙ soonest-one table c.args.best (declarator (parameters_of c.args.unit.now.lists c.args.name.index) at))

@@ -15,7 +15,7 @@ loop-unit-preserved c =
     more_next c.analysis-a.result.now.value.table (marks_of c.analysis-a.result.now.value c.args.count) c.units-units.result.now c.loop-unit.unit-index f c.args.first c.loop-unit.now c.at_calls-now.result
     c.loop-unit-test.true c.unit-item.is c.loop-unit.invariant
     (then_both c.analysis-a.result.now.value.table
-    (flat_map (declarator_marks f.class.members c.analysis-a.result.now.value c.args.count f.text.now.toks f.text.now.reached f.bound.now.names f.lists.items) f.bound.now.declarators)
+    (flat_map (declarator_marks f.class.members c.analysis-a.result.now.value c.args.count f.text.now.toks f.text.now.reached f.bound.now.names f.lists) f.bound.now.declarators)
     (flat_map (call_marks f.class.members c.analysis-a.result.now.value c.args.count f.text.now.toks f.text.now.reached f.bound.now.names) f.bound.now.calls)
     c.loop-unit.now c.at_declarators-declared.result c.at_calls-now.result (rw c.declarators.ensures at c.at_declarators-declared.ensures) (rw c.calls.ensures at c.at_calls-now.ensures))
 

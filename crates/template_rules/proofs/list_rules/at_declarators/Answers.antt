@@ -10,7 +10,7 @@ loop-list-init c = (then_none c.args.functions.now.analysis.value.table c.args.f
 pub loop-list-preserved : goal.loop-list-preserved
 loop-list-preserved c =
     let class = c.args.functions.now in (
-      more_next class.analysis.value.table (declarator_offences class.members class.analysis.value (odd_positions class.analysis.value.table) c.args.unit.now.text.now c.args.unit.now.bound.now c.args.unit.now.lists.items)
+      more_next class.analysis.value.table (declarator_offences class.members class.analysis.value (odd_positions class.analysis.value.table) c.args.unit.now.text.now c.args.unit.now.bound.now c.args.unit.now.lists)
           c.args.all.now c.loop-list.list-index c.list-item.result c.args.first c.loop-list.now c.declarator_at-now.result
           c.loop-list-test.true c.list-item.is c.loop-list.invariant.0 c.declarator_at-now.ensures,
       c.units_at-near.ensures,
@@ -19,5 +19,5 @@ loop-list-preserved c =
 pub returns : goal.returns
 returns c =
     let class = c.args.functions.now in
-    more_all class.analysis.value.table (declarator_offences class.members class.analysis.value (odd_positions class.analysis.value.table) c.args.unit.now.text.now c.args.unit.now.bound.now c.args.unit.now.lists.items)
+    more_all class.analysis.value.table (declarator_offences class.members class.analysis.value (odd_positions class.analysis.value.table) c.args.unit.now.text.now c.args.unit.now.bound.now c.args.unit.now.lists)
     c.args.all.now c.loop-list.list-index c.args.first c.loop-list.now c.loop-list-test.false c.loop-list.invariant.0

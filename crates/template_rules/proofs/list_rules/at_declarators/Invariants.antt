@@ -9,6 +9,6 @@ use Rattle.template_rules.proofs.list_rules.at_declarators.Given as goal
 abbrev pub invariant-loop-list : goal.invariant-loop-list
 invariant-loop-list l =
     FirstThen l.functions.analysis.value.table
-    (flat_map (declarator_offences l.functions.members l.functions.analysis.value (odd_positions l.functions.analysis.value.table) l.unit.text.now l.unit.bound.now l.unit.lists.items) (take l.list-index l.all))
+    (flat_map (declarator_offences l.functions.members l.functions.analysis.value (odd_positions l.functions.analysis.value.table) l.unit.text.now l.unit.bound.now l.unit.lists) (take l.list-index l.all))
     l.initial.now l.now
     × AreWithin l.functions.analysis.value.units l.near

@@ -32,7 +32,7 @@ loop-unit-preserved c =
     more_next a.table (offences_at class odds) c.units-units.result.now c.loop-unit.unit-index f c.args.first c.loop-unit.now c.at_calls-now.result
     c.loop-unit-test.true c.unit-item.is c.loop-unit.invariant
     (then_both a.table
-    (flat_map (declarator_offences class.members a odds f.text.now f.bound.now f.lists.items) f.bound.now.declarators)
+    (flat_map (declarator_offences class.members a odds f.text.now f.bound.now f.lists) f.bound.now.declarators)
     (flat_map (call_offences class.members a odds f.text.now f.bound.now f.ends.items) f.bound.now.calls)
     c.loop-unit.now c.at_declarators-declared.result c.at_calls-now.result
     (rw c.declarators.ensures at c.at_declarators-declared.ensures)

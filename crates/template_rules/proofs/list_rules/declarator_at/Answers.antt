@@ -14,9 +14,9 @@ returns-then-names_function c =
     rw (← named)
     (then_both class.analysis.value.table
     (list_offences class.members class.analysis.value (odd_positions class.analysis.value.table) unit.text.now c.args.list.now)
-    (standing cause.ParameterDependence (dependence_places unit.text.now.toks unit.bound.now.names unit.bound.now.bare unit.lists.items c.args.list.now))
+    (standing cause.ParameterDependence (dependence_places unit.text.now.toks unit.bound.now.names unit.bound.now.bare unit.lists c.args.list.now))
     c.args.first c.list_at-named.result c.dependences_at.result c.list_at-named.ensures
-    (rw (c.analysis.ensures, c.toks.ensures, c.names.ensures, c.bare.ensures, c.deref.ensures.value) at c.dependences_at.ensures))
+    (rw (c.analysis.ensures, c.toks.ensures, c.names.ensures, c.bare.ensures) at c.dependences_at.ensures))
 
 pub returns-else-names_function : goal.returns-else-names_function
 returns-else-names_function c =

@@ -9,10 +9,10 @@ returns-else-declares_function c =
     let unit = c.args.unit.now in
     elim c.else-declares_function.branch [
       | else-declares_function-via-then-declares_function+else-not-has_prototype w ↦
-          let has : has_prototype unit.lists.items c.args.name.index ≡ true = sym (rw w.deref.ensures.value at w.has_prototype.ensures) ∙ w.if-not-has_prototype.false in
-          none_lacking c.args.a.now.value.table unit.class.members unit.text.now.toks unit.bound.now.names c.args.name c.args.first unit.lists.items
+          let has : has_prototype unit.lists c.args.name.index ≡ true = sym w.has_prototype.ensures ∙ w.if-not-has_prototype.false in
+          none_lacking c.args.a.now.value.table unit.class.members unit.text.now.toks unit.bound.now.names c.args.name c.args.first unit.lists
           (rw (← c.declares_function.ensures, w.if-declares_function.true, has) refl)
       | else-declares_function-via-else-declares_function w ↦
-          none_lacking c.args.a.now.value.table unit.class.members unit.text.now.toks unit.bound.now.names c.args.name c.args.first unit.lists.items
+          none_lacking c.args.a.now.value.table unit.class.members unit.text.now.toks unit.bound.now.names c.args.name c.args.first unit.lists
           (rw (← c.declares_function.ensures, w.if-declares_function.false) refl)
     ]

@@ -3,7 +3,7 @@ use Rattle.std.specs.Prelude.{◌==◌}
 use Rattle.std.proofs.lemmas.Bool.{eq-eqb, ne_eqb}
 use Rattle.c_types.specs.declared.parameters.ParameterList.{ParameterList}
 use Rattle.template_rules.proofs.FindLemmas.{found_at, found_later, found_none}
-use Rattle.template_rules.proofs.counting.parameters_at.Goals as goal
+use Rattle.template_rules.proofs.unit_parameters.by_each.Goals as goal
 
 pub returns-then-list-k : goal.returns-then-list-k
 returns-then-list-k c =
