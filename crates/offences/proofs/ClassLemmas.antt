@@ -32,7 +32,7 @@ find_only {X = X} p (y ∷ xs) x (suc k) at here only =
       | inr fails ↦ rw fails (find_only p xs x k at here (λ j z is. only (suc j) z is))
     ]
 
-find_no : {X : Type 0} (p : X → Bool) (xs : List X) → ((j : ℕ) (y : X) → slice_get xs j ≡ Some y → p y ≡ true → ⊥) → find p xs ≡ None
+pub find_no : {X : Type 0} (p : X → Bool) (xs : List X) → ((j : ℕ) (y : X) → slice_get xs j ≡ Some y → p y ≡ true → ⊥) → find p xs ≡ None
 find_no p [] none = refl
 find_no p (y ∷ xs) none =
     elim (cases_Bool (p y)) [

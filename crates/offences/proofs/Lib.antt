@@ -4,6 +4,7 @@ pub mod FirstLemmas
 pub mod UnitLemmas
 pub mod ClassLemmas
 pub mod OriginLemmas
+mod FileLemmas
 pub mod PlaceLemmas
 pub mod TiedLemmas
 pub mod NamedLemmas

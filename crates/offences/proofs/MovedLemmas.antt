@@ -1,7 +1,9 @@
 -- The tables make the renaming of the class.
-use Rattle.std.proofs.Common.{◌≡◌, ℕ, zero, suc, ◌≤◌, List, [], ◌∷◌, ◌++◌, length, take, get_or, Option, Some, None, inl, inr, refl, sym, ap, subst, ◌∙◌, arith}
+use Rattle.std.proofs.Common.{◌≡◌, ℕ, zero, suc, ◌+◌, ◌≤◌, List, [], ◌∷◌, ◌++◌, length, take, get_or, Option, Some, None, inl, inr, refl, sym, ap, subst, ◌∙◌, arith}
+use Rattle.std.specs.Prelude.{min}
 use Rattle.std.specs.Option.{option_map_or, option_and_then}
 use Rattle.std.proofs.lemmas.Bool.{cases_lt}
+use Rattle.std.proofs.lemmas.List.{length-take}
 use Rattle.std.proofs.lemmas.Option.{slice_get_past}
 use Rattle.cs_base.specs.declared.positions.Part.{Part}
 use Rattle.cs_base.specs.declared.positions.Pos.{Pos}
@@ -15,7 +17,8 @@ use Rattle.offences.specs.declared.moves.FileMove.{FileMove}
 use Rattle.offences.specs.declared.moves.Moves.{Moves}
 use Rattle.offences.specs.declared.puts.Put.{Put}
 use Rattle.offences.specs.declared.puts.Put.TheVariants.{Character}
-use Rattle.offences.specs.Moves.{AreMoves, IsOf, file_at, table_size, text_for, put_in, place_in, put_by, move_by, spell_of, trace_of, spell_by, trace_by, renaming_by, put_at, put_of, text_in}
+use Rattle.offences.specs.Class.{IsFree}
+use Rattle.offences.specs.Moves.{AreMoves, AreOfFile, IsOf, file_at, table_size, text_for, put_in, place_in, put_by, move_by, spell_of, trace_of, spell_by, trace_by, renaming_by, put_at, put_of, text_in}
 use Rattle.offences.specs.Respelling.{spell_from, trace_from, origins_for, move_to, moved_in, renaming_of}
 use Rattle.offences.proofs.PutPlaceLemmas.{text_is}
 use Rattle.offences.proofs.OtherLemmas.{others_over}
@@ -53,30 +56,50 @@ module _ (a : AnalysisValue) (members : List Part) (name : List ℕ) (m : Moves)
       ap (λ (ms : List Part). put_at ms p) are.others
       ∙ ap (λ (o : Option Part). option_map_or (put_of p) o Character) (others_over m.files.items p past members)
 
+  put_full : (p : Pos) (k : KeptValue) (f : FileMove) → file_at m p.file ≡ Some f → AreOfFile members name p.file k.bytes f
+      → get_or f.puts.items p.at (put_at m.others.items p) ≡ put_at members p
+  put_full p k f e of = elim (cases_lt p.at (length f.puts.items)) [
+    | inl less ↦ default f.puts.items p.at (put_at m.others.items p) Character less ∙ of.puts p.at less
+    | inr past ↦ get_past f.puts.items p.at (put_at m.others.items p) past ∙ other_put p (let size = size_is p.file (Some f) e in omega (arith, size, past))
+  ]
+
   put_within : (p : Pos) (k : Option KeptValue) (f : Option FileMove) → file_at m p.file ≡ f → IsOf members name p.file k f
       → put_in m.others.items f p ≡ put_at members p
   put_within p None None e of = other_put p (let size = size_is p.file None e in omega (arith, size))
   put_within p (Some k) None e of = absurd of
   put_within p None (Some f) e of = absurd of
-  put_within p (Some k) (Some f) e of = elim (cases_lt p.at (length f.puts.items)) [
-    | inl less ↦ default f.puts.items p.at (put_at m.others.items p) Character less ∙ of.puts p.at less
-    | inr past ↦ get_past f.puts.items p.at (put_at m.others.items p) past ∙ other_put p (let size = size_is p.file (Some f) e in omega (arith, size, past))
-  ]
+  put_within p (Some k) (Some f) e (inl full) = put_full p k f e full.1
+  put_within p (Some k) (Some f) e (inr calm) =
+      let none = ap length calm.0.puts in
+      get_past f.puts.items p.at (put_at m.others.items p) (omega (arith, none)) ∙ other_put p (let size = size_is p.file (Some f) e in omega (arith, size, none))
 
   pub put_same : (p : Pos) (c : ℕ) → put_by m p c ≡ what_at members name p c
   put_same p c =
       ap (λ (x : Put). text_for m.name.items x c) (put_within p (kept_at a.table p.file) (file_at m p.file) refl (of_number p.file))
       ∙ (ap (λ (w : List ℕ). text_for w (put_at members p) c) are.spelled ∙ text_is members name p c)
 
-  place_same : (p : Pos) (k : KeptValue) (f : FileMove) → IsOf members name p.file (Some k) (Some f)
+  place_full : (p : Pos) (k : KeptValue) (f : FileMove) → AreOfFile members name p.file k.bytes f
       → get_or f.places.items p.at f.end ≡ moved_to members name p.file k.bytes p.at
-  place_same p k f of = elim (cases_lt p.at (length (text_in k.bytes))) [
+  place_full p k f of = elim (cases_lt p.at (length (text_in k.bytes))) [
     | inl less ↦ of.places.each p.at f.end less
     | inr past ↦
         let count = of.places.count in
         get_past f.places.items p.at f.end (omega (arith, past, count))
         ∙ (of.places.next ∙ ap (λ (w : List ℕ). length (respell (putting members name p.file) 0 w)) (sym (take_past (text_in k.bytes) p.at past)))
   ]
+
+  -- where no member stands in the file
+  free_text : (file : ℕ) → IsFree members file → (at : ℕ) (w : List ℕ) → respell (putting members name file) at w ≡ w
+  free_text file free at [] = refl
+  free_text file free at (c ∷ cs) = rw (free (pos file at) refl) (ap (λ (v : List ℕ). c ∷ v) (free_text file free (at + 1) cs))
+
+  place_same : (p : Pos) (k : KeptValue) (f : FileMove) → IsOf members name p.file (Some k) (Some f)
+      → place_in (Some f) p.at ≡ moved_to members name p.file k.bytes p.at
+  place_same p k f (inl full) = rw full.0 (place_full p k f full.1)
+  place_same p k f (inr calm) =
+      let size = length-take p.at (text_in k.bytes) in
+      let end : min p.at f.end ≡ length (take p.at (text_in k.bytes)) = ap (λ (n : ℕ). min p.at n) calm.0.end ∙ sym size in
+      rw calm.0.still (end ∙ ap length (sym (free_text p.file calm.1 0 (take p.at (text_in k.bytes)))))
 
   place_there : (p : Pos) (k : Option KeptValue) (f : Option FileMove) → IsOf members name p.file k f
       → pos p.file (place_in f p.at) ≡ option_map_or (moved_in members name p) k p

@@ -1,5 +1,5 @@
 -- Members that the characters of a token come from.
-use Rattle.std.proofs.Common.{◌≡◌, true, false, inl, inr, ℕ, zero, suc, ◌+◌, ◌-◌, ◌<◌, ◌≤◌, Bool, List, [], ◌∷◌, length, take, get_or, Option, None, refl, sym, ap, ◌∙◌, arith}
+use Rattle.std.proofs.Common.{◌≡◌, true, false, inl, inr, ℕ, zero, suc, ◌+◌, ◌-◌, ◌<◌, ◌≤◌, Bool, List, [], ◌∷◌, length, take, get_or, Option, Some, None, refl, sym, ap, ◌∙◌, arith}
 use Rattle.std.specs.Prelude.{◌||◌, is_some}
 use Rattle.std.specs.List.{list_any}
 use Rattle.std.proofs.Math.Bool.{or-false}
@@ -9,9 +9,14 @@ use Rattle.std.proofs.lemmas.List.{take_more, take_all}
 use Rattle.std.proofs.lemmas.Option.{slice_get-get_or}
 use Rattle.cs_base.specs.declared.positions.Part.{Part}
 use Rattle.cs_base.specs.declared.positions.Pos.{Pos}
-use Rattle.cs_base.specs.Token.{Token, origin_at}
+use Rattle.cs_base.specs.Token.{IsToken, Token, origin_at}
 use Rattle.analysis.specs.FileTokens.{numbers_brought}
+use Rattle.offences.specs.Class.{IsFree}
 use Rattle.offences.specs.Tokens.{holds_member, member_of}
+
+no_any : (p : Option Pos → Bool) (xs : List (Option Pos)) → ((k : ℕ) → k < length xs → p (get_or xs k None) ≡ false) → list_any p xs ≡ false
+no_any p [] none = refl
+no_any p (x ∷ xs) none = rw (none zero (omega arith)) (no_any p xs (λ k within. none (suc k) (omega (arith, within))))
 
 module _ (members : List Part) (t : Token) where
   abbrev is_from : Option Pos → Bool
@@ -52,3 +57,11 @@ module _ (members : List Part) (t : Token) where
 
   pub origins_none : (k : ℕ) → length t.origins ≤ k → list_any is_from (take k t.origins) ≡ false → holds_member members t ≡ false
   origins_none k past before = rw (← take_all k t.origins past) before
+
+  -- Where all characters come from one file, in which no member stands, none of them comes from a member.
+  pub origins_free : (first : Pos) → IsToken t → IsFree members first.file
+      → ((k : ℕ) → k < length t.text → origin_at t k ≡ Some (record { file = first.file; at = first.at + k })) → holds_member members t ≡ false
+  origins_free first is free starts = no_any is_from t.origins (λ k within.
+      let each = is.each in
+      let here = starts k (omega (arith, within, each)) in
+      ap is_from (sym (origin_is k within) ∙ here) ∙ ap is_some (free (record { file = first.file; at = first.at + k }) refl))

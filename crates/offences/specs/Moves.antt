@@ -1,6 +1,6 @@
 -- Where the characters of files stand behind a renaming, and what stands for them, by tables that code reads; and the renaming
 -- that the tables make.
-use Rattle.std.specs.Prelude.{ℕ, ◌+◌, ◌≡◌, ◌<◌, ◌≤◌, ◌⊎◌, ◌==◌, if◌then◌else◌, nat_lt, Bool, filter, Option, Some, None, List, [], ◌∷◌, ◌++◌, length, get_or}
+use Rattle.std.specs.Prelude.{ℕ, ◌+◌, ◌≡◌, ◌<◌, ◌≤◌, ◌⊎◌, ◌==◌, if◌then◌else◌, nat_lt, min, Bool, true, false, filter, Option, Some, None, List, [], ◌∷◌, ◌++◌, length, get_or}
 use Rattle.std.specs.Option.{option_map_or}
 use Rattle.cs_base.specs.declared.positions.Part.{Part}
 use Rattle.cs_base.specs.declared.positions.Pos.{Pos}
@@ -11,6 +11,7 @@ use Rattle.part_respell.specs.Respelled.{member_over, moved_to}
 use Rattle.analysis.specs.Below.source_files.Files.{Table}
 use Rattle.analysis.specs.Below.source_files.KeptFiles.{KeptValue, kept_at}
 use Rattle.analysis.specs.Changed.{Editing, Renaming}
+use Rattle.offences.specs.Class.{IsFree}
 use Rattle.offences.specs.declared.puts.Put.{Put}
 use Rattle.offences.specs.declared.puts.Put.TheVariants.{Character, Name, Nothing}
 use Rattle.offences.specs.declared.moves.FileMove.{FileMove}
@@ -49,10 +50,10 @@ put_in others (Some f) p = get_or f.puts.items p.at (put_at others p)
 abbrev pub put_told : Moves → Pos → Put
 put_told m p = put_in m.others.items (file_at m p.file) p
 
--- a place past the last character moves to where the text ends
+-- a place past the last character moves to where the text ends, and where no member stands in the file no other one moves
 abbrev pub place_in : Option FileMove → ℕ → ℕ
 place_in None at = at
-place_in (Some f) at = get_or f.places.items at f.end
+place_in (Some f) at = if f.still then min at f.end else get_or f.places.items at f.end
 
 abbrev pub put_by : Moves → Pos → ℕ → List ℕ
 put_by m p c = text_for m.name.items (put_told m p) c
@@ -121,10 +122,21 @@ pub record AreOfFile (members : List Part) (name : List ℕ) (number : ℕ) (byt
   pub all : length f.puts.items ≡ length (text_in bytes)
   pub places : ArePlaces members name number bytes (length (text_in bytes)) f.places.items f.end
 
+-- The tables of a file with these bytes each of whose characters stays: its end alone.
+pub record IsStillTo (bytes : List ℕ) (f : FileMove) : Type 0 where
+  pub still : f.still ≡ true
+  pub puts : f.puts.items ≡ []
+  pub end : f.end ≡ length (text_in bytes)
+
+-- They tell the end alone where no member stands in the file, and all where one does.
+abbrev pub AreTables : List Part → List ℕ → ℕ → List ℕ → FileMove → Type 0
+AreTables members name number bytes f =
+    ((f.still ≡ false) × AreOfFile members name number bytes f) ⊎ (IsStillTo bytes f × IsFree members number)
+
 -- a kept file has tables, and no other one
 abbrev pub IsOf : List Part → List ℕ → ℕ → Option KeptValue → Option FileMove → Type 0
 IsOf members name number None None = Unit {0}
-IsOf members name number (Some k) (Some f) = AreOfFile members name number k.bytes f
+IsOf members name number (Some k) (Some f) = AreTables members name number k.bytes f
 IsOf members name number None (Some f) = ⊥
 IsOf members name number (Some k) None = ⊥
 

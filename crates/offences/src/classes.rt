@@ -1,11 +1,11 @@
 // A class over an analysis, and its members in tokens.
-ghost use Rattle.std.specs.Prelude.{◌≡◌, Some, MatchBool, is_some, false, length};
+ghost use Rattle.std.specs.Prelude.{◌≡◌, Some, MatchBool, is_some, true, false, length};
 ghost use Rattle.part_respell.specs.Respelled.{member_over};
 ghost use Rattle.cs_base.specs.Token.{origin_at};
 ghost use Rattle.eclass_map.specs.ClassTable.{class_in};
 ghost use Rattle.cs_base.specs.declared.positions.Pos.{Pos};
 ghost use Rattle.eclass_map.specs.Positions.{holds};
-ghost use Rattle.offences.specs.Class.{class_over, IsApart, IsClass};
+ghost use Rattle.offences.specs.Class.{class_over, HoldFiles, IsApart, IsClass, IsFree};
 ghost use Rattle.offences.specs.Tokens.{holds_member, member_of};
 ghost use Rattle.cs_base.specs.declared.positions.Part.{Part as Member};
 ghost use Rattle.analysis.specs.Parts.{AreMembers};
@@ -21,12 +21,14 @@ pub struct Class<'a> {
     a: &'a Analysis,
     members: &'a [Part],
     number: u32,
+    // Whether a member stands in a file, by the remainder of its number; files of one remainder share an entry.
+    files: [bool; 256],
 }
 
 impl<'a> Model for Class<'a> {
     ghost use Rattle.std.specs.Coded.{codes};
     ghost use Rattle.analysis.specs.Below.c99_tree.TreeCode.{node_code};
-    ghost use Rattle.offences.specs.Class.{ClassValue, class_over, IsClass};
+    ghost use Rattle.offences.specs.Class.{ClassValue, class_over, IsKept};
 
     ghost Value = { ClassValue };
 
@@ -34,7 +36,7 @@ impl<'a> Model for Class<'a> {
 
     ghost view = { λ c. class_over c.a.now c.members.now };
 
-    ghost invariant = { λ c. IsClass c.a.now c.members.now c.number };
+    ghost invariant = { λ c. IsKept c.a.now c.members.now c.number c.files };
 }
 
 impl<'a> Class<'a> {
@@ -43,7 +45,12 @@ impl<'a> Class<'a> {
         requires { IsClass a.now members.now number }
         ensures { result ≡ class_over a.now members.now }
     {
-        Class { a, members, number }
+        Class {
+            a,
+            members,
+            number,
+            files: files_of(members),
+        }
     }
 
     pub fn analysis(&self) -> &'a Analysis
@@ -59,6 +66,24 @@ impl<'a> Class<'a> {
     {
         self.members
     }
+
+    // Whether a member may stand in a file: none does where this says no.
+    fn may_stand_in(&self, file: u32) -> bool
+        ensures { result ≡ false → IsFree self.now.members file }
+    {
+        self.files[(file % 256) as usize]
+    }
+}
+
+// Which files members stand in, by the remainders of their numbers.
+fn files_of(members: &[Part]) -> [bool; 256]
+    ensures { HoldFiles members.now result }
+{
+    let mut files = [false; 256];
+    for part in members {
+        files[(part.start.file % 256) as usize] = true;
+    }
+    files
 }
 
 // Whether a part is one of the class with this number.
@@ -150,10 +175,24 @@ fn no_part() -> Part
     }
 }
 
+// Whether a token may hold a member, by the file in which it begins where all its characters come from one.
+fn may_hold(class: &Class<'_>, tok: &Tok) -> bool
+    ensures { result ≡ false → holds_member class.now.members tok.now ≡ false }
+{
+    let _text = tok.text();
+    match tok.start() {
+        Some(first) => class.may_stand_in(first.file),
+        None => true,
+    }
+}
+
 /// Whether a token holds a member of the class.
 pub fn holds_member(class: &Class<'_>, tok: &Tok) -> bool
     ensures { result ≡ holds_member class.now.members tok.now }
 {
+    if !may_hold(class, tok) {
+        return false;
+    }
     let count = length(tok);
     let mut apart = no_part();
     for k in 0..count {

@@ -10,7 +10,8 @@
 //!
 //! Where the members of a class are spelled otherwise, tokens are respelled by the origins of their characters, and positions move:
 //! `renaming_of` of `specs/Respelling.antt`. `class_moves` makes tables of it, of what stands for each character of a file and where,
-//! and `renamed_toks` makes the new tokens by them. The tables tell this very renaming (`proofs/MovedLemmas.antt`). Which names may
+//! and `renamed_toks` makes the new tokens by them; `toks_stay` tells where
+//! there is nothing to make. The tables tell this very renaming (`proofs/MovedLemmas.antt`). Which names may
 //! be given belongs to `rename_rules`, and what follows a rename to `kept_analysis`. Read `specs/First.antt`, then `firsts.rt`; of
 //! tokens `specs/Respelling.antt`, `specs/Moves.antt`, then `respelled_toks.rt`.
 #![tactic(auto)]
@@ -28,4 +29,4 @@ pub use firsts::{Offence, compare, first_with};
 pub use moves::{FileMove, Moves, class_moves};
 pub use puts::Put;
 pub use refusals::{PlanFault, Refusal, refused};
-pub use respelled_toks::{renamed_links, renamed_tok, renamed_toks};
+pub use respelled_toks::{links_stay, renamed_links, renamed_tok, renamed_toks, stays, toks_stay};

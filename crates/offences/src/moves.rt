@@ -1,8 +1,9 @@
 // Where the characters of all files stand behind a renaming, and what stands for them.
-ghost use Rattle.std.specs.Prelude.{◌≡◌, ◌<◌, ◌+◌, ◌^◌, ◌++◌, ◌∷◌, [], List, IfOk, OnOk, Some, filter, length, nat_lt, option_copied};
+ghost use Rattle.std.specs.Prelude.{◌≡◌, ◌<◌, ◌≤◌, ◌+◌, ◌^◌, ◌++◌, ◌∷◌, [], List, IfOk, IsTrue, OnOk, Some, filter, length, nat_lt, option_copied};
 ghost use Rattle.cs_base.specs.declared.positions.Part.{Part as APart};
 ghost use Rattle.analysis.specs.Below.source_files.KeptFiles.{kept_at};
-ghost use Rattle.offences.specs.Moves.{AreMoves, AreMovesTo, AreOfFile, ArePuts, IsOf, file_at, is_outside, move_by, place_in, put_at, put_in, put_of, put_told, size_of, table_size, text_in};
+ghost use Rattle.offences.specs.Class.{IsFree};
+ghost use Rattle.offences.specs.Moves.{AreMoves, AreMovesTo, ArePuts, AreTables, IsOf, IsStillTo, file_at, is_outside, move_by, place_in, put_at, put_in, put_of, put_told, size_of, table_size, text_in};
 
 use crate::puts::{Put, puts};
 use analysis::{Analysis, KeptFile};
@@ -10,9 +11,11 @@ use cs_base::{Memory, Part, Pos};
 use eclass_map::part_holds;
 use std::alloc::Global;
 
-/// Of each character of a file what stands for it, and where it stands then; and where the text ends.
+/// Of each character of a file what stands for it, and where it stands then; and where the text ends. Where no member
+/// stands in the file, each character stays, and only the end is told.
 #[derive(Drop)]
 pub struct FileMove {
+    pub still: bool,
     pub puts: Vec<Put>,
     pub places: Vec<u32>,
     pub end: u32,
@@ -51,7 +54,7 @@ fn put_of(part: Part, p: Pos) -> Put
 
 impl Moves {
     // The tables of a file, if it has some.
-    fn file(&self, number: u32) -> Option<&FileMove>
+    pub(crate) fn file(&self, number: u32) -> Option<&FileMove>
         ensures { option_copied result ≡ file_at self.now number }
     {
         if (number as usize) < self.files.len() {
@@ -82,6 +85,13 @@ impl Moves {
         }
     }
 
+    /// Whether a position stays.
+    pub fn keeps(&self, p: Pos) -> bool
+        ensures { IsTrue result → move_by self.now p ≡ p }
+    {
+        self.moved(p).at == p.at
+    }
+
     /// Where a position moves.
     pub fn moved(&self, p: Pos) -> Pos
         ensures { result ≡ move_by self.now p }
@@ -99,6 +109,9 @@ impl Moves {
 fn place_in(file: &FileMove, at: u32) -> u32
     ensures { result ≡ place_in (Some file.now) at }
 {
+    if file.still {
+        return at.min(file.end);
+    }
     if (at as usize) < file.places.len() {
         file.places[at as usize]
     } else {
@@ -208,21 +221,63 @@ fn moves_of(
     members: &[Part],
     name: &[u8],
 ) -> Result<FileMove, Memory>
-    ensures { IfOk result (λ f. AreOfFile members.now name.now number file.now.bytes f) }
+    ensures { IfOk result (λ f. AreTables members.now name.now number file.now.bytes f) }
 {
+    if is_free(members, number) {
+        return Ok(still_moves(alloc, file));
+    }
     let puts = puts(alloc, number, members, characters(file) as usize)?;
     places(alloc, file, number, name, puts)
 }
 
-// How many characters the text of a file has.
+// Whether no member stands in the file with this number.
+fn is_free(members: &[Part], number: u32) -> bool
+    ensures { IsTrue result → IsFree members.now number }
+{
+    for part in members {
+        if part.start.file == number {
+            return false;
+        }
+    }
+    true
+}
+
+// The tables of a file in which none does.
+fn still_moves(alloc: Global, file: &KeptFile) -> FileMove
+    ensures { IsStillTo file.now.bytes result }
+{
+    FileMove {
+        still: true,
+        puts: Vec::new(alloc),
+        places: Vec::new(alloc),
+        end: characters(file),
+    }
+}
+
+// How many characters the text of a file has, by halving.
 fn characters(file: &KeptFile) -> u32
     ensures { result ≡ length (text_in file.now.bytes) }
 {
-    let mut count: u32 = 0;
-    while is_character(file, count) {
-        count += 1;
+    let mut low: u32 = 0;
+    let mut high = most_characters(file, file.bytes());
+    'halves: while low < high {
+        let middle = low + (high - low) / 2;
+        if is_character(file, middle) {
+            low = middle + 1;
+        } else {
+            high = middle;
+        }
     }
-    count
+    low
+}
+
+// It has no more than the file has bytes.
+fn most_characters(file: &KeptFile, bytes: &[u8]) -> u32
+    requires { bytes.now ≡ file.now.bytes }
+    ensures { length (text_in file.now.bytes) ≤ result }
+{
+    let _text = file.text();
+    bytes.len() as u32
 }
 
 fn is_character(file: &KeptFile, at: u32) -> bool
@@ -241,7 +296,7 @@ fn places(
     puts: Vec<Put>,
 ) -> Result<FileMove, Memory>
     requires { length puts.items ≡ length (text_in file.now.bytes) }
-    ensures { (members : List APart) → ArePuts members number puts.items → IfOk result (λ f. AreOfFile members name.now number file.now.bytes f) }
+    ensures { (members : List APart) → ArePuts members number puts.items → IfOk result (λ f. AreTables members name.now number file.now.bytes f) }
 {
     let mut places = Vec::with_capacity(alloc, puts.len())?;
     let mut end: u32 = 0;
@@ -249,7 +304,12 @@ fn places(
         places.push(end)?;
         end = behind(end, puts[at], name)?;
     }
-    Ok(FileMove { puts, places, end })
+    Ok(FileMove {
+        still: false,
+        puts,
+        places,
+        end,
+    })
 }
 
 // Where what stands for a character ends, which begins there.

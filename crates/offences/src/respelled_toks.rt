@@ -1,5 +1,5 @@
 // Tokens as they stand behind a renaming.
-ghost use Rattle.std.specs.Prelude.{◌≡◌, ◌++◌, ◌∷◌, [], IfOk, OnOk, Some, None, length, map};
+ghost use Rattle.std.specs.Prelude.{◌≡◌, ◌++◌, ◌∷◌, [], IfOk, IsTrue, OnOk, Some, None, length, map};
 ghost use Rattle.cs_base.specs.Token.{IsToken, IsTraced, token};
 ghost use Rattle.analysis.specs.Below.lexer.Places.{origins_from};
 ghost use Rattle.analysis.specs.Changed.{renamed_token, renamed_link};
@@ -10,6 +10,45 @@ use crate::puts::Put;
 use crate::still_toks::are_still;
 use cs_base::{Link, Memory, Pos, Tok};
 use std::alloc::Global;
+
+#[tactic(auto, using(crate::proofs::StillLemmas::token_same))]
+/// Whether a token stays as it is: its characters, and where it was brought.
+pub fn stays(moves: &Moves, tok: &Tok) -> bool
+    ensures { IsTrue result → renamed_token (renaming_by moves.now) tok.now ≡ tok.now }
+{
+    moves.keeps(tok.at()) && are_still(moves, tok, tok.text())
+}
+
+/// Whether all these tokens do.
+pub fn toks_stay(moves: &Moves, toks: &[Tok]) -> bool
+    ensures { IsTrue result → map (renamed_token (renaming_by moves.now)) toks.now ≡ toks.now }
+{
+    for tok in toks {
+        if !stays(moves, tok) {
+            return false;
+        }
+    }
+    true
+}
+
+/// Whether the tokens of all these links do.
+pub fn links_stay(moves: &Moves, links: &[Link]) -> bool
+    ensures { IsTrue result → map (renamed_link (renaming_by moves.now)) links.now ≡ links.now }
+{
+    for link in links {
+        if !link_stays(moves, link) {
+            return false;
+        }
+    }
+    true
+}
+
+#[tactic(auto, using(crate::proofs::StillLemmas::link_same))]
+fn link_stays(moves: &Moves, link: &Link) -> bool
+    ensures { IsTrue result → renamed_link (renaming_by moves.now) link.now ≡ link.now }
+{
+    stays(moves, &link.x) && stays(moves, &link.y)
+}
 
 /// The token, with its new spelling, origins and position. One whose characters stay shares its text and origins.
 pub fn renamed_tok(alloc: Global, moves: &Moves, tok: &Tok) -> Result<Tok, Memory>
