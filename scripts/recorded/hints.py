@@ -102,8 +102,8 @@ GNU_HINTS = [
     Hint("not one token", lambda it: True, "`not one token`", "`##` between what makes no token, which the compiler refuses too", "an edit"),
     Hint("mixed linkage", lambda it: True, "`mixed linkage`", "a name is declared without `static` first, and with it later, which the compiler "
          "refuses too", "write `static` at the first declaration too"),
-    Hint("syntax", lambda it: it.token == "{" and it.before == ")", "`syntax` at a `{` behind `)`", "a function in a function",
-         "move it out of the function"),
+    Hint("syntax", lambda it: it.token == "{" and it.before in (")", ""), "`syntax` at a `{` behind `)`, or at the beginning of a line",
+         "a function in a function", "move it out of the function"),
     Hint("syntax", lambda it: it.token[:1] in ("\"", "'") or it.before in ("u8", "u", "U"), "`syntax` at a quote behind `u8`, `u` or `U`",
          "a string or constant with a prefix of C11", "`--without` the unit"),
     Hint("syntax", lambda it: it.token == "$" or it.before == "$" or (it.token and not it.token.isascii()),

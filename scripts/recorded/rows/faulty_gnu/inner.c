@@ -1,4 +1,5 @@
 int inner(int n) {
-	int twice(int m) { return 2 * m; }
+	int twice(int m)
+	{ return 2 * m; }
 	return twice(n);
 }
