@@ -192,7 +192,10 @@ class Compilers:
                     text = file.read()
             except OSError:
                 text = b""
-            self.texts[path] = {(kind, name.decode()) for kind, pattern in ASKED.items() for name in pattern.findall(text)}
+            # Nearly all files ask nothing, and one look says so.
+            low = text.lower()
+            patterns = ASKED.items() if any(word in low for word in (b"has_", b"is_identifier", b"building_module")) else ()
+            self.texts[path] = {(kind, name.decode()) for kind, pattern in patterns for name in pattern.findall(text)}
         return self.texts[path]
 
     def _own(self, compiler, directory):
