@@ -12,14 +12,14 @@ CAPITALS = re.compile(r"[A-Z_][A-Z0-9_]+\Z")
 
 
 class Place:
-    """Where a fault stands: the line, whether its file is the program's own, the token with the ones before and behind it in the line, and
-    the `define` lines of a macro of that name that the program has."""
+    """Where a fault stands: the line, whether its file is the program's own, the token with the one before it in the line, and the
+    `define` lines of a macro of that name that the program has."""
 
     def __init__(self, line, column, own, defined):
         self.line, self.own = line, own
         self.token = re.match(r"[A-Za-z_]\w*|\S?", line[column:]).group(0)
-        before, behind = (re.findall(r"[A-Za-z_]\w*|\S", part) for part in (line[:column], line[column + len(self.token):]))
-        self.before, self.behind = before[-1] if before else "", behind[0] if behind else ""
+        before = re.findall(r"[A-Za-z_]\w*|\S", line[:column])
+        self.before = before[-1] if before else ""
         self.defined = defined(self.token) if re.match(r"[A-Za-z_]", self.token) else []
 
 
@@ -110,9 +110,6 @@ GNU_HINTS = [
          "`syntax` at `$`, or at a letter beyond ASCII", "a name with such a letter", "another name, or `--without` the unit"),
     Hint("syntax", lambda it: True, "`syntax` at another place",
          "a declaration without a type; words of another compiler than gcc, as `^` and `_BitInt` of clang", "write the type; `--without` the unit"),
-    Hint("undeclared", lambda it: it.behind == "(", "`undeclared` in front of `(`",
-         "a function that no line declares, of which the compiler warns (`-Wimplicit-function-declaration`)",
-         "include its header; or `--include` of the import, with a file that has `int NAME();`"),
     Hint("undeclared", lambda it: it.before == "enum", "`undeclared` behind `enum`", "an enumeration whose list comes later", "move the list up"),
     Hint("undeclared", lambda it: True, "`undeclared` at another place",
          "a name of another compiler than gcc, or `__BASE_FILE__` and its like", "`--define` it"),

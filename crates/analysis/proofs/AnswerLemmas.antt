@@ -78,3 +78,8 @@ pub gives_one : (source : Source) (units : List UnitValue) (number : ℕ) (u : U
 gives_one source units number u after r first last is h =
     some_map (alone source number) (λ expected. Gives (λ t. t) fault_of r expected) (unit_at units number)
     (one_at source number u after r (unit_at units number) (unit_at-is units number u first last is) h)
+
+-- want of memory says nothing of it
+pub memory_one : (o : Option (Result UnitTextValue UnitFault)) → IfSome o (λ expected. Gives (λ (t : UnitTextValue). t) fault_of (Err answer.Memory) expected)
+memory_one None = tt
+memory_one (Some expected) = tt

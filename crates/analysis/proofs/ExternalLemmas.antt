@@ -1,13 +1,16 @@
 -- The external names of units, token after token.
-use Rattle.std.proofs.Common.{◌≡◌, ℕ, ◌+◌, ◌<◌, ◌≤◌, true, false, List, [], ◌∷◌, ◌++◌, length, get_or, drop, min, refl, sym, ap, ◌∙◌, append_assoc, inl, inr, arith, cond}
+use Rattle.std.proofs.Common.{◌≡◌, ℕ, zero, suc, ◌+◌, ◌<◌, ◌≤◌, true, false, List, [], ◌∷◌, ◌++◌, length, get_or, drop, min, Option, None, Some, slice_get, refl, sym, ap, ◌∙◌, append_assoc, inl, inr, arith, cond}
+use Rattle.std.specs.Option.{option_map_or}
 use Rattle.std.proofs.lemmas.Bool.{cases_lt, cond-true, cond-false}
+use Rattle.std.proofs.lemmas.Option.{slice_get_past}
 use Rattle.std.proofs.lemmas.List.{drop_more, drop_all, append-nil}
 use Rattle.cs_base.specs.Token.{Token}
+use Rattle.cs_base.proofs.ListLemmas.{drop-some, drop_none, read_at}
 use Rattle.cs_base.specs.Units.{UnitValue}
 use Rattle.linkage_join.specs.Linkage.{UnitValue as ExternalNames}
 use Rattle.gnu_bind.specs.Below.scope_bind.declared.bound.Name.{Name}
 use Rattle.analysis.specs.Analysis.{UnitAnalysis}
-use Rattle.analysis.specs.Links.{is_external_name, external_names_from, names_of_units}
+use Rattle.analysis.specs.Links.{is_external_name, external_names_from, names_at as names_there_are, names_of_unit, names_of_units}
 
 -- ---- the names of one unit
 
@@ -59,3 +62,33 @@ of_units_end units parts i all whole past e =
       | inr m ↦ ap (λ v. names_of_units v (drop i parts)) (drop_all i units m)
     ] in
     sym (append-nil all) ∙ ap (λ v. all ++ v) (sym none) ∙ e
+
+drop_past : {X : Type 0} (xs : List X) (k : ℕ) → slice_get xs k ≡ None → drop (suc k) xs ≡ []
+drop_past [] k at = refl
+drop_past {X = X} (x ∷ xs) zero at = absurd (let wrong : ◌≡◌ {A = Option X} (Some x) None = at in cc)
+drop_past (x ∷ xs) (suc k) at = drop_past xs k at
+
+names_next : (units : List UnitValue) (us : List UnitAnalysis) (k : ℕ) (u : UnitAnalysis) (o : Option UnitValue) → slice_get units k ≡ o → slice_get us k ≡ Some u
+    → names_of_units (drop k units) (drop k us) ≡ option_map_or (λ unit. names_of_unit unit u ∷ []) o [] ++ names_of_units (drop (k + 1) units) (drop (k + 1) us)
+names_next units us k u (Some unit) own at =
+    ap (λ (vs : List UnitValue). names_of_units vs (drop k us)) (drop-some units k unit own) ∙ ap (names_of_units (unit ∷ drop (k + 1) units)) (drop-some us k u at)
+names_next units us k u None own at =
+    let on : k + 1 ≡ suc k = omega arith in
+    let past : drop (k + 1) units ≡ [] = ap (λ (n : ℕ). drop n units) on ∙ drop_past units k own in
+    ap (λ (vs : List UnitValue). names_of_units vs (drop k us)) (drop_none units k own) ∙ sym (ap (λ (vs : List UnitValue). names_of_units vs (drop (k + 1) us)) past)
+
+pub names_there : (units : List UnitValue) (k : ℕ) (unit : UnitValue) (u : UnitAnalysis) → k < length units → unit ≡ get_or units k unit
+    → names_of_unit unit u ∷ [] ≡ names_there_are units k u
+names_there units k unit u less is = ap (λ (o : Option UnitValue). option_map_or (λ (v : UnitValue). names_of_unit v u ∷ []) o []) (sym (read_at units k unit less is))
+
+pub names_past : (units : List UnitValue) (k : ℕ) (u : UnitAnalysis) (all : List ExternalNames) → length units ≤ k → all ≡ all ++ names_there_are units k u
+names_past units k u all past =
+    sym (append-nil all) ∙ ap (λ (o : Option UnitValue). all ++ option_map_or (λ (v : UnitValue). names_of_unit v u ∷ []) o []) (sym (slice_get_past units k past))
+
+-- the names of one unit more
+pub of_units_more : (units : List UnitValue) (us : List UnitAnalysis) (k : ℕ) (u : UnitAnalysis) (all now whole : List ExternalNames) → slice_get us k ≡ Some u
+    → now ≡ all ++ names_there_are units k u → all ++ names_of_units (drop k units) (drop k us) ≡ whole → now ++ names_of_units (drop (k + 1) units) (drop (k + 1) us) ≡ whole
+of_units_more units us k u all now whole at more rest =
+    let later = names_of_units (drop (k + 1) units) (drop (k + 1) us) in
+    ap (λ (ns : List ExternalNames). ns ++ later) more ∙ append_assoc all (names_there_are units k u) later
+    ∙ ap (λ (ns : List ExternalNames). all ++ ns) (sym (names_next units us k u (slice_get units k) refl at)) ∙ rest

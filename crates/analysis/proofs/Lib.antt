@@ -34,3 +34,5 @@ pub mod FoundTableLemmas
 -- Words of the crates below, passed on.
 pub mod Below
 pub mod TableLemmas
+pub mod MadeAgainLemmas
+pub mod TakenLemmas

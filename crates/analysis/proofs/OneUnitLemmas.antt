@@ -28,3 +28,13 @@ bound_of_unit units k u bound is e =
     let same : k + 1 - 1 ≡ k = omega arith in
     let f : option_map (λ (u : UnitAnalysis). u.bound) (slice_get units k) ≡ Some bound = rw same at e in
     bound_in (slice_get units k) u bound is f
+
+-- the unit that is asked for by its number
+pub unit_of_number : (units : List UnitAnalysis) (k : ℕ) (u : UnitAnalysis) → slice_get units (k + 1 - 1) ≡ Some u → slice_get units k ≡ Some u
+unit_of_number units k u is =
+    let same : k + 1 - 1 ≡ k = omega arith in
+    rw same at is
+
+-- a place has one unit
+pub same_unit : (r : Option UnitAnalysis) (u v : UnitAnalysis) → r ≡ Some u → r ≡ Some v → v ≡ u
+same_unit r u v is at = cc

@@ -11,11 +11,10 @@ use Rattle.analysis.specs.Marking.{AreMarked}
 use Rattle.analysis.specs.Naming.{names_processed}
 
 -- What is true of the fields of every analysis.
-pub record IsAnalysed (a : AnalysisValue) (classes : Table) (lists : ClassLists) (marks : List (List Bool)) (brought numbers : List Token) : Type 0 where
+pub record IsAnalysed (a : AnalysisValue) (classes : Table) (lists : ClassLists) (marks : List (List Bool)) (numbers : List Token) : Type 0 where
   pub own : AreItsClasses a classes
   pub listed : AreLists a classes lists
   pub marked : AreMarked a.table (names_processed a) marks
-  pub each : brought ≡ all_brought a.units
   pub numbered : AreNumbers (all_brought a.units) numbers
   -- the number of the pseudo file of lines is that of no kept file
   pub lines : kept_at a.table 0 ≡ None

@@ -31,5 +31,7 @@ pub mod AnalysisFields
 pub mod Trees
 pub mod UnitFronts
 pub mod AnalysisAnswers
+pub mod HeldUnits
+pub mod MadeAgain
 -- Words of the crates below, passed on.
 pub mod Below

@@ -1,6 +1,6 @@
 -- Links: which tokens of a workspace are spelled alike because one stands for the other (this project's, over
 -- ISO/IEC 9899:1999, 6.2.1, 6.2.2, 6.10.1 and 6.10.3).
-use Rattle.std.specs.Prelude.{ℕ, ◌+◌, ◌==◌, ◌&&◌, if◌then◌else◌, Bool, false, Option, Some, None, List, [], ◌∷◌, ◌++◌, map, filter}
+use Rattle.std.specs.Prelude.{ℕ, ◌+◌, ◌==◌, ◌&&◌, if◌then◌else◌, Bool, false, Option, Some, None, List, [], ◌∷◌, ◌++◌, map, filter, slice_get}
 use Rattle.std.specs.List.{flat_map}
 use Rattle.std.specs.Option.{option_map_or}
 use Rattle.std.specs.Str.{bytes_eq}
@@ -58,6 +58,10 @@ names_of_unit unit u = external_names unit.project (external_names_from u.bound.
 abbrev pub names_of_units : List UnitValue → List UnitAnalysis → List ExternalNames
 names_of_units (unit ∷ units) (u ∷ us) = names_of_unit unit u ∷ names_of_units units us
 names_of_units _ _ = []
+
+-- those of the unit at a place, if there is one
+abbrev pub names_at : List UnitValue → ℕ → UnitAnalysis → List ExternalNames
+names_at units k u = option_map_or (λ unit. names_of_unit unit u ∷ []) (slice_get units k) []
 
 -- ---- all links
 

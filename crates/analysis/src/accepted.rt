@@ -1,17 +1,26 @@
 // A workspace whose units are accepted: preprocessed, read and bound.
-ghost use Rattle.std.specs.Prelude.{◌≡◌, ◌≤◌, IfOk, length, option_copied, slice_get};
+ghost use Rattle.std.specs.Prelude.{◌≡◌, ◌≤◌, ◌<◌, ◌-◌, ◌^◌, Some, IfOk, OnOk, length, map, option_copied, slice_get};
 ghost use Rattle.std.specs.Option.{option_map};
 ghost use Rattle.cs_base.specs.Limits.{most_units};
-ghost use Rattle.analysis.specs.GnuUnits.{begin_of};
+ghost use Rattle.analysis.specs.BroughtNumbers.{all_brought};
+ghost use Rattle.analysis.specs.Carrying.{IsFresh};
+ghost use Rattle.analysis.specs.GnuUnits.{begin_of, gnu_begin};
+ghost use Rattle.analysis.specs.MadeAgain.{AreMadeAgain, AreTaken, all_units, others_of, units_again};
 ghost use Rattle.include_tree.specs.Below.source_files.Files.{absent_at};
+ghost use Rattle.include_tree.specs.Fronts.{AreFronts};
 ghost use Rattle.include_tree.specs.Below.source_files.KeptFiles.{kept_at};
 ghost use Rattle.include_tree.specs.Below.source_files.Tables.{AreText, BeginsWithLines, HasEachOnce};
 
+use crate::brought::all_brought;
+use crate::making_again::unit_again;
 use crate::reading::read_toks;
+use crate::taking::Taken;
+use crate::unit_at::UnitAt;
+use crate::unit_fronts::UnitFront;
 use c99_tree::Tree;
-use cs_base::{Memory, Pos, Standard, Tok};
+use cs_base::{Memory, Pos, Standard, Tok, Unit};
 use gnu_bind::Bound;
-use include_tree::{Cache, KeptFile, UnitText};
+use include_tree::{Cache, Fronts, KeptFile, UnitText};
 use std::alloc::Global;
 use std::marker::Model;
 use ws_file::Workspace;
@@ -52,7 +61,6 @@ fn begin_of(toks: &[Tok]) -> Pos
 
 impl UnitParts {
     ghost use Rattle.analysis.specs.Analysis.{unit_analysis};
-    ghost use Rattle.analysis.specs.GnuUnits.{gnu_begin};
     ghost use Rattle.analysis.specs.Trees.{HasTree};
     ghost use Rattle.c99_tree.specs.Joined.{followed};
 
@@ -145,55 +153,159 @@ impl UnitParts {
     }
 }
 
-/// A workspace, its units in order, and the files that were read for them.
+/// A workspace, its units in order, and the files that were read for them. The first units are kept, and others made again
+/// when someone asks for them.
 #[derive(Drop)]
 pub(crate) struct Accepted {
     workspace: Workspace,
-    units: Vec<UnitParts>,
+    kept: Vec<UnitParts>,
+    // So many units behind those that are kept.
+    others: usize,
+    // Where each unit of GNU C begins.
+    begins: Vec<Option<Pos>>,
+    brought: Vec<Tok>,
+    fronts: Vec<UnitFront>,
     cache: Cache,
 }
 
 impl Model for Accepted {
-    ghost use Rattle.std.specs.Prelude.{◌≤◌, length};
-    ghost use Rattle.cs_base.specs.Limits.{most_units};
     ghost use Rattle.std.specs.Coded.{codes};
     ghost use Rattle.c99_tree.specs.TreeCode.{node_code};
     ghost use Rattle.analysis.specs.Analysis.{AnalysisValue, analysis_and};
+    ghost use Rattle.analysis.specs.MadeAgain.{AreTaken, all_units};
 
     ghost Value = { AnalysisValue };
 
     ghost coded = { Prim.hlevel (codes, node_code) };
 
-    ghost view = { λ a. analysis_and a.workspace a.units.items a.cache.table };
+    ghost view = { λ a. analysis_and a.workspace (all_units a.cache.table a.workspace.units a.kept.items a.others) a.cache.table };
 
-    ghost invariant = { λ a. length a.units.items ≤ most_units };
+    ghost invariant = { λ a. AreTaken a.cache.table a.workspace.units a.kept.items a.others a.begins.items a.brought.items };
+}
+
+// Where each of these units begins, if it is one of GNU C.
+fn begins_of(alloc: Global, units: &[UnitParts]) -> Result<Vec<Option<Pos>>, Memory>
+    ensures { IfOk result (λ begins. begins.items ≡ map gnu_begin units.now) }
+{
+    let mut begins = Vec::new(alloc);
+    for unit in units {
+        begins.push(unit.gnu_begin())?;
+    }
+    Ok(begins)
+}
+
+// The fronts, where there are units to be made again.
+fn fronts_for(others: usize, mut fronts: Vec<UnitFront>) -> Vec<UnitFront> {
+    if others == 0 {
+        fronts.clear();
+    }
+    fronts
+}
+
+// So many units from a place on.
+fn others_of(units: &[Unit], from: usize, others: usize) -> &[Unit]
+    requires { others ≤ length units.now - from }
+    ensures { result.now ≡ others_of units.now from others }
+{
+    if others == 0 {
+        return &[];
+    }
+    &units[from..from + others]
+}
+
+// Each of these units made again.
+fn made_each(
+    alloc: Global,
+    cache: &Cache,
+    fronts: &[UnitFront],
+    units: &[Unit],
+) -> Result<Vec<UnitParts>, Memory>
+    requires fresh { 0 < length units.now → IsFresh (2 ^ 32 - 1) cache.now.table }
+    requires again { AreMadeAgain cache.now.table units.now (units_again cache.now.table units.now) }
+    ensures { IfOk result (λ all. all.items ≡ units_again cache.now.table units.now) }
+{
+    let mut all = Vec::new(alloc);
+    let mut shared = Fronts::new(alloc);
+    for i in 0..units.len() {
+        all.push(unit_again(alloc, cache, &mut shared, fronts, &units[i])?)?;
+    }
+    Ok(all)
 }
 
 impl Accepted {
     ghost use Rattle.analysis.specs.Analysis.{analysis_and};
 
-    pub(crate) fn new(workspace: Workspace, units: Vec<UnitParts>, cache: Cache) -> Accepted
-        requires few { length units.items ≤ most_units }
-        ensures { result ≡ analysis_and workspace units.items cache.table }
+    pub(crate) fn new(
+        workspace: Workspace,
+        taken: Taken,
+        fronts: Vec<UnitFront>,
+        cache: Cache,
+    ) -> Accepted
+        requires { AreTaken cache.table workspace.units taken.kept.items taken.others taken.begins.items taken.brought.items }
+        ensures { result ≡ analysis_and workspace (all_units cache.table workspace.units taken.kept.items taken.others) cache.table }
     {
+        let Taken {
+            kept,
+            others,
+            begins,
+            brought,
+            ..
+        } = taken;
         Accepted {
             workspace,
-            units,
+            kept,
+            others,
+            begins,
+            brought,
+            fronts: fronts_for(others, fronts),
             cache,
         }
     }
 
-    /// The workspace, the units and the files, each as it is.
-    pub(crate) fn into_parts(self) -> (Workspace, Vec<UnitParts>, Cache)
-        ensures answer { analysis_and result.0 result.1.items result.2.table ≡ self }
-        ensures few { length result.1.items ≤ most_units }
+    /// A workspace all of whose units are kept.
+    pub(crate) fn of_kept(
+        alloc: Global,
+        workspace: Workspace,
+        units: Vec<UnitParts>,
+        cache: Cache,
+    ) -> Result<Accepted, Memory>
+        requires few { length units.items ≤ most_units }
+        ensures { IfOk result (λ a. a ≡ analysis_and workspace units.items cache.table) }
+    {
+        let begins = begins_of(alloc, &units)?;
+        let brought = all_brought(alloc, &units)?;
+        Ok(Accepted {
+            workspace,
+            kept: units,
+            others: 0,
+            begins,
+            brought,
+            fronts: Vec::new(alloc),
+            cache,
+        })
+    }
+
+    /// The workspace, all units and the files, each as it is: units that are not kept are made again.
+    pub(crate) fn into_parts(
+        self,
+        alloc: Global,
+    ) -> Result<(Workspace, Vec<UnitParts>, Cache), Memory>
+        ensures answer { IfOk result (λ r. analysis_and r.0 r.1.items r.2.table ≡ self) }
+        ensures few { IfOk result (λ r. length r.1.items ≤ most_units) }
     {
         let Accepted {
             workspace,
-            units,
+            kept,
+            others,
+            fronts,
             cache,
+            ..
         } = self;
-        (workspace, units, cache)
+        let units = others_of(workspace.units(), kept.len(), others);
+        let mut again = made_each(alloc, &cache, &fronts, units)?;
+        let mut all = kept;
+        all.append(&mut again)?;
+        Ok((workspace, all, cache))
     }
 
     pub(crate) fn workspace(&self) -> &Workspace
@@ -202,12 +314,65 @@ impl Accepted {
         &self.workspace
     }
 
-    /// The units in order.
-    pub(crate) fn units(&self) -> &[UnitParts]
-        ensures answer { result.now ≡ self.now.units }
+    /// How many units there are.
+    pub(crate) fn count(&self) -> usize
+        ensures answer { result ≡ length self.now.units }
         ensures few { length self.now.units ≤ most_units }
     {
-        self.units.as_slice()
+        self.kept.len() + self.others
+    }
+
+    /// A unit, counted from 0: as it is kept, or made again.
+    pub(crate) fn unit<'a>(&'a self, alloc: Global, k: usize) -> Result<UnitAt<'a>, Memory>
+        requires { k < length self.now.units }
+        ensures { IfOk result (λ u. slice_get self.now.units k ≡ Some u) }
+    {
+        let mut shared = Fronts::new(alloc);
+        self.unit_over(alloc, &mut shared, k)
+    }
+
+    /// The same, where the units that were asked for before left fronts.
+    pub(crate) fn unit_over<'a>(
+        &'a self,
+        alloc: Global,
+        shared: &mut Fronts,
+        k: usize,
+    ) -> Result<UnitAt<'a>, Memory>
+        requires within { k < length self.now.units }
+        requires shared { AreFronts self.now.table shared.old.all.items }
+        ensures unit { IfOk result (λ u. slice_get self.now.units k ≡ Some u) }
+        ensures shared { OnOk result (AreFronts self.now.table shared.new.all.items) }
+    {
+        let kept = self.kept.as_slice();
+        if k < kept.len() {
+            return Ok(UnitAt::kept(&kept[k]));
+        }
+        let units = self.workspace.units();
+        if k < units.len() {
+            let again = unit_again(alloc, &self.cache, shared, &self.fronts, &units[k])?;
+            return Ok(UnitAt::made(again));
+        }
+        // Each unit that is not kept is one of the workspace.
+        Err(Memory)
+    }
+
+    /// Where a unit begins, if it is one of GNU C; units are counted from 0.
+    pub(crate) fn gnu_begin(&self, k: usize) -> Option<Pos>
+        requires { k < length self.now.units }
+        ensures { option_map gnu_begin (slice_get self.now.units k) ≡ Some result }
+    {
+        let begins = self.begins.as_slice();
+        match begins.get(k) {
+            Some(begin) => *begin,
+            None => None,
+        }
+    }
+
+    /// The numbers that the units bring, each for each time that it is brought.
+    pub(crate) fn brought(&self) -> &[Tok]
+        ensures { result.now ≡ all_brought self.now.units }
+    {
+        &self.brought
     }
 
     /// How many numbers of files are given: those from 0 to before this one. Each is that of a path of its own,

@@ -14,7 +14,8 @@ ghost use Rattle.analysis.specs.BroughtNumbers.{AreNumbers, all_brought};
 ghost use Rattle.analysis.specs.Carrying.{IsOver};
 ghost use Rattle.analysis.specs.Classes.{AreItsClasses};
 ghost use Rattle.analysis.specs.GnuUnits.{gnu_begin};
-ghost use Rattle.analysis.specs.Naming.{Names};
+ghost use Rattle.analysis.specs.Marking.{AreMarked};
+ghost use Rattle.analysis.specs.Naming.{Names, names_processed};
 ghost use Rattle.analysis.specs.Parts.{AreFirsts, AreMembers, Holds, IsPart, StandInFiles};
 ghost use Rattle.analysis.specs.Places.{is_read_only, place_at};
 ghost use Rattle.analysis.specs.Placing.{byte_at, IsPositionAt};
@@ -25,7 +26,6 @@ mod parting;
 use crate::accepted::Accepted;
 use crate::accepting::accept;
 use crate::analyse_fault::AnalyseFault;
-use crate::brought::all_brought;
 use crate::class_lists::lists;
 use crate::file_tokens::{file_classes, numbers};
 use crate::linking::join_links;
@@ -33,18 +33,19 @@ use crate::listed::Lists;
 use crate::marks::Marks;
 use crate::naming::part_named;
 use crate::placing::{byte, place_in_one, position};
-use crate::processed::processed;
 use crate::read_only::is_read_only_path;
 use crate::spelling::spelling;
-use c99_tree::Tree;
+use crate::unit_at::UnitAt;
 use cs_base::{Files, Memory, Part, Pos, Tok};
 use eclass_map::Classes;
-use gnu_bind::Bound;
-use include_tree::{KeptFile, UnitText};
+use include_tree::KeptFile;
 pub use parting::AnalysisParts;
 use std::alloc::Global;
 use std::marker::Model;
 use ws_file::Workspace;
+
+/// How many tokens the units of an analysis may have together that are kept.
+const MOST_KEPT: usize = 1 << 22;
 
 /// A workspace all of whose units are accepted, and the classes of the parts of its tokens. Contracts see
 /// the units with the files read, and the table of classes.
@@ -54,7 +55,6 @@ pub struct Analysis {
     classes: Classes,
     lists: Lists,
     marks: Vec<Marks>,
-    brought: Vec<Tok>,
     numbers: Vec<Tok>,
 }
 
@@ -70,7 +70,7 @@ impl Model for Analysis {
 
     ghost view = { λ a. analysed a.accepted a.classes };
 
-    ghost invariant = { λ a. IsAnalysed a.accepted a.classes a.lists a.marks.items a.brought.items a.numbers.items };
+    ghost invariant = { λ a. IsAnalysed a.accepted a.classes a.lists a.marks.items a.numbers.items };
 }
 
 /// Preprocesses, reads and binds all units of a workspace in order, and joins what must be spelled alike.
@@ -91,7 +91,27 @@ pub fn analyse<F: Files>(
     ensures answer { IfSome (F.told files.old).held (λ held. Gives (λ a. a.value) fault_of result (analysis_of (source_of held) ws.now)) }
     ensures faults { ReadsOnly (F.told files.old) (F.told files.new) (reads_of result) }
 {
-    match accept(alloc, ws, files) {
+    analyse_within(alloc, ws, files, MOST_KEPT)
+}
+
+/// The same, where the units that are kept have at most so many tokens together: the others are made again when they are
+/// asked for.
+pub fn analyse_within<F: Files>(
+    alloc: Global,
+    ws: &Workspace,
+    files: &mut F,
+    room: usize,
+) -> Result<Analysis, AnalyseFault>
+    // The workspace is kept, and the classes are those of the links of its units.
+    ensures whole { IfOk result (λ a. (a.value.workspace ≡ ws.now) × AreItsClasses a.value a.classes) }
+    // The analysis, or the first fault, is so over every source that agrees with what was read; that is kept.
+    ensures over { (table : Table) × IfOk result (λ a. a.value.table ≡ table)
+        × IsOver (F.told files.old).held table (λ source. Gives (λ a. a.value) fault_of result (analysis_of source ws.now)) }
+    // So it is over what the files hold, where that is told.
+    ensures answer { IfSome (F.told files.old).held (λ held. Gives (λ a. a.value) fault_of result (analysis_of (source_of held) ws.now)) }
+    ensures faults { ReadsOnly (F.told files.old) (F.told files.new) (reads_of result) }
+{
+    match accept(alloc, ws, files, room) {
         Ok(accepted) => analysed(alloc, accepted),
         Err(fault) => Err(fault),
     }
@@ -110,48 +130,50 @@ fn analysed(alloc: Global, accepted: Accepted) -> Result<Analysis, AnalyseFault>
 fn with_classes(alloc: Global, accepted: Accepted) -> Result<Analysis, Memory>
     ensures { IfOk result (λ a. (a.value ≡ accepted) × AreItsClasses a.value a.classes) }
 {
-    let brought = all_brought(alloc, accepted.units())?;
-    let numbers = numbers(alloc, &brought)?;
-    let classes = joined_classes(alloc, &accepted, &numbers)?;
-    with_lists(alloc, accepted, classes, brought, numbers)
+    let numbers = numbers(alloc, accepted.brought())?;
+    let (classes, marks) = joined_classes(alloc, &accepted, &numbers)?;
+    with_lists(alloc, accepted, classes, marks, numbers)
 }
 
 #[tactic(auto, using(crate::proofs::PositionLemmas::lines_not_kept))]
-// The same with its table of classes, and the numbers that its units bring.
+// The same with its table of classes, the marks on what units process, and the numbers that they bring.
 fn with_lists(
     alloc: Global,
     accepted: Accepted,
     classes: Classes,
-    brought: Vec<Tok>,
+    marks: Vec<Marks>,
     numbers: Vec<Tok>,
 ) -> Result<Analysis, Memory>
     requires own { AreItsClasses accepted classes }
-    requires each { brought.items ≡ all_brought accepted.units }
+    requires marked { AreMarked accepted.table (names_processed accepted) marks.items }
     requires numbered { AreNumbers (all_brought accepted.units) numbers.items }
     ensures { IfOk result (λ a. (a.value ≡ accepted) × (a.classes ≡ classes)) }
 {
     // The first number is that of the pseudo file of lines, which is not kept.
     let _files = accepted.files();
     let lists = lists(alloc, &accepted, &classes)?;
-    let marks = processed(alloc, &accepted)?;
     Ok(Analysis {
         accepted,
         classes,
         lists,
         marks,
-        brought,
         numbers,
     })
 }
 
-// The table of classes: the file tokens, with the links joined.
-fn joined_classes(alloc: Global, accepted: &Accepted, numbers: &[Tok]) -> Result<Classes, Memory>
+// The table of classes: the file tokens, with the links joined; and the marks on what units process.
+fn joined_classes(
+    alloc: Global,
+    accepted: &Accepted,
+    numbers: &[Tok],
+) -> Result<(Classes, Vec<Marks>), Memory>
     requires { AreNumbers (all_brought accepted.now.units) numbers.now }
-    ensures { IfOk result (λ t. AreItsClasses accepted.now t) }
+    ensures own { IfOk result (λ r. AreItsClasses accepted.now r.0) }
+    ensures marked { IfOk result (λ r. AreMarked accepted.now.table (names_processed accepted.now) r.1.items) }
 {
     let mut classes = file_classes(alloc, accepted, numbers)?;
-    join_links(alloc, accepted, &mut classes)?;
-    Ok(classes)
+    let marks = join_links(alloc, accepted, &mut classes)?;
+    Ok((classes, marks))
 }
 
 impl Analysis {
@@ -166,25 +188,16 @@ impl Analysis {
     pub fn units(&self) -> u32
         ensures { result ≡ length self.now.value.units }
     {
-        self.accepted.units().len() as u32
+        self.accepted.count() as u32
     }
 
-    /// The text of a unit; units count from 1.
-    pub fn text(&self, unit: u32) -> &UnitText
+    /// A unit; units count from 1. Whoever asks drops it before the next one: a unit that is not kept is made again.
+    pub fn unit<'a>(&'a self, alloc: Global, unit: u32) -> Result<UnitAt<'a>, Memory>
         requires first { 1 ≤ unit }
         requires last { unit ≤ length self.now.value.units }
-        ensures { option_map (λ u. u.text) (slice_get self.now.value.units (unit - 1)) ≡ Some result.now }
+        ensures { IfOk result (λ u. slice_get self.now.value.units (unit - 1) ≡ Some u) }
     {
-        self.accepted.units()[unit as usize - 1].text()
-    }
-
-    /// The tree of a unit. No tree is kept: the unit's tokens are read again.
-    pub fn tree(&self, alloc: Global, unit: u32) -> Result<Tree, Memory>
-        requires first { 1 ≤ unit }
-        requires last { unit ≤ length self.now.value.units }
-        ensures { IfOk result (λ tree. option_map (λ u. u.tree) (slice_get self.now.value.units (unit - 1)) ≡ Some tree) }
-    {
-        self.accepted.units()[unit as usize - 1].tree(alloc)
+        self.accepted.unit(alloc, unit as usize - 1)
     }
 
     /// Where a unit begins, if it is one of GNU C.
@@ -193,16 +206,7 @@ impl Analysis {
         requires last { unit ≤ length self.now.value.units }
         ensures { option_map gnu_begin (slice_get self.now.value.units (unit - 1)) ≡ Some result }
     {
-        self.accepted.units()[unit as usize - 1].gnu_begin()
-    }
-
-    /// What the identifiers of a unit denote.
-    pub fn bound(&self, unit: u32) -> &Bound
-        requires first { 1 ≤ unit }
-        requires last { unit ≤ length self.now.value.units }
-        ensures { option_map (λ u. u.bound) (slice_get self.now.value.units (unit - 1)) ≡ Some result.now }
-    {
-        self.accepted.units()[unit as usize - 1].bound()
+        self.accepted.gnu_begin(unit as usize - 1)
     }
 
     /// How many numbers of files are given: those from 0 to before this one. Each is that of a path of its own,
@@ -316,7 +320,7 @@ impl Analysis {
     pub fn numbers_brought(&self) -> &[Tok]
         ensures { result.now ≡ all_brought self.now.value.units }
     {
-        &self.brought
+        self.accepted.brought()
     }
 
     /// The first member of each class, in the order of their places. Takes no memory.

@@ -22,8 +22,8 @@ pub(crate) fn all_brought(alloc: Global, units: &[UnitParts]) -> Result<Vec<Tok>
     Ok(all)
 }
 
-// Adds the numbers that a unit brings.
-fn push_brought(alloc: Global, all: &mut Vec<Tok>, text: &UnitText) -> Result<(), Memory>
+/// Adds the numbers that a unit brings.
+pub(crate) fn push_brought(alloc: Global, all: &mut Vec<Tok>, text: &UnitText) -> Result<(), Memory>
     ensures { OnOk result (all.new.items ≡ all.old.items ++ numbers_brought text.now) }
 {
     let events = text.events();

@@ -1,8 +1,8 @@
 // The names of external linkage of each unit (ISO/IEC 9899:1999, 6.2.2).
-ghost use Rattle.std.specs.Prelude.{◌≡◌, IfOk};
+ghost use Rattle.std.specs.Prelude.{◌≡◌, ◌++◌, IfOk, OnOk};
 ghost use Rattle.gnu_bind.specs.Below.c_types.Declarations.{is_linkage};
 ghost use Rattle.gnu_bind.specs.Below.c_types.declared.entity.Linkage.TheVariants.{External};
-ghost use Rattle.analysis.specs.Links.{external_names_from, is_bound_to, is_external_name, names_of_unit, names_of_units};
+ghost use Rattle.analysis.specs.Links.{external_names_from, is_bound_to, is_external_name, names_at, names_of_unit};
 
 use crate::accepted::UnitParts;
 use crate::occurrences::count_of;
@@ -12,19 +12,21 @@ use linkage_join::UnitNames;
 use macro_expand::shared;
 use std::alloc::Global;
 
-/// The project and the external names of each unit, in order.
-pub(crate) fn names_of_units(
+/// Adds the project and the external names of unit `k`, if the workspace has it.
+pub(crate) fn push_names(
     alloc: Global,
+    all: &mut Vec<UnitNames>,
     units: &[Unit],
-    parts: &[UnitParts],
-) -> Result<Vec<UnitNames>, Memory>
-    ensures { IfOk result (λ all. all.items ≡ names_of_units units.now parts.now) }
+    k: usize,
+    parts: &UnitParts,
+) -> Result<(), Memory>
+    ensures { OnOk result (all.new.items ≡ all.old.items ++ names_at units.now k parts.now) }
 {
-    let mut all = Vec::new(alloc);
-    for i in 0..units.len().min(parts.len()) {
-        all.push(names_of_unit(alloc, &units[i], &parts[i])?)?;
+    if k < units.len() {
+        all.push(names_of_unit(alloc, &units[k], parts)?)?;
+        return Ok(());
     }
-    Ok(all)
+    Ok(())
 }
 
 fn names_of_unit(alloc: Global, unit: &Unit, parts: &UnitParts) -> Result<UnitNames, Memory>

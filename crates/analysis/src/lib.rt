@@ -23,6 +23,7 @@ mod accepted;
 mod accepting;
 mod adding;
 mod all_texts;
+mod all_units;
 mod analyse_fault;
 mod analysing;
 mod brought;
@@ -34,6 +35,7 @@ mod fronts;
 mod joining;
 mod linking;
 mod listed;
+mod making_again;
 mod marks;
 mod nameable;
 mod naming;
@@ -49,14 +51,17 @@ mod read_only;
 mod reading;
 mod spelling;
 mod tables;
+mod taking;
 mod token_search;
+mod unit_at;
 mod unit_fronts;
 mod unit_reading;
 
 pub use accepted::UnitParts;
 pub use all_texts::Texts;
+pub use all_units::AllUnits;
 pub use analyse_fault::AnalyseFault;
-pub use analysing::{Analysis, AnalysisParts, analyse};
+pub use analysing::{Analysis, AnalysisParts, analyse, analyse_within};
 pub use external_names::{is_external, is_external_name};
 pub use place_printing::push_place;
 pub use preprocessing::{one_text, texts};
@@ -64,6 +69,7 @@ pub use tables::{
     made_files_are_pseudo, paths_stand_once, tables_are_found, tokens_are_few,
     unit_files_are_opened,
 };
+pub use unit_at::UnitAt;
 
 // Handed on: the types of this crate's own interface that crates below make.
 pub use gnu_bind::{Bound, EntityKind, Linkage, List, Name, Range};

@@ -5,6 +5,7 @@ ghost use Rattle.cs_base.specs.Outside.{ReadsOnly};
 ghost use Rattle.cs_base.specs.Limits.{most_units};
 ghost use Rattle.include_tree.specs.Below.source_files.Files.{Source, Table, source_of, nothing_carried};
 ghost use Rattle.include_tree.specs.Below.source_files.Tables.{AreFound};
+ghost use Rattle.include_tree.specs.Fronts.{AreFronts};
 ghost use Rattle.include_tree.specs.Preprocessed.{with_text};
 ghost use Rattle.analysis.specs.Texts.{texts_and, unit_with, texts_of, one_text_of};
 ghost use Rattle.analysis.specs.Answers.{fault_of, reads_of};
@@ -13,7 +14,7 @@ ghost use Rattle.analysis.specs.Carrying.{IsFresh, ReadsMore, IsOver, in_unit};
 use crate::all_texts::Texts;
 use crate::analyse_fault::AnalyseFault;
 use cs_base::{Files, Memory, Unit};
-use include_tree::{Cache, PreFault, UnitText, preprocess};
+use include_tree::{Cache, Fronts, PreFault, UnitText, preprocess_on};
 use std::alloc::Global;
 use ws_file::Workspace;
 
@@ -31,8 +32,27 @@ pub fn texts<F: Files>(alloc: Global, ws: &Workspace, files: &mut F) -> Result<T
     ensures answer { IfSome (F.told files.old).held (λ held. Gives (λ t. t) fault_of result (texts_of (source_of held) ws.now.units)) }
     ensures faults { ReadsOnly (F.told files.old) (F.told files.new) (reads_of result) }
 {
-    let mut cache = Cache::new(alloc);
-    match unit_texts(alloc, &mut cache, files, ws.units()) {
+    match Cache::new(alloc) {
+        Ok(cache) => texts_over(alloc, cache, files, ws.units()),
+        Err(_) => Err(AnalyseFault::Memory),
+    }
+}
+
+// The texts of these units, where nothing is read yet.
+fn texts_over<F: Files>(
+    alloc: Global,
+    mut cache: Cache,
+    files: &mut F,
+    units: &[Unit],
+) -> Result<Texts, AnalyseFault>
+    requires few { length units.now ≤ most_units }
+    requires first { cache ≡ nothing_carried }
+    ensures units { IfOk result (λ t. length t.texts ≡ length units.now) }
+    ensures over { (table : Table) × IfOk result (λ t. t.table ≡ table)
+        × IsOver (F.told files.old).held table (λ source. Gives (λ t. t) fault_of result (texts_of source units.now)) }
+    ensures faults { ReadsOnly (F.told files.old) (F.told files.new) (reads_of result) }
+{
+    match unit_texts(alloc, &mut cache, files, units) {
         Ok(all) => Ok(Texts::new(all, cache)),
         Err(fault) => Err(fault),
     }
@@ -55,12 +75,17 @@ pub fn one_text<F: Files>(
     ensures answer { IfSome (F.told files.old).held (λ held. IfSome (one_text_of (source_of held) ws.now.units number) (λ expected. Gives (λ t. t) fault_of result expected)) }
     ensures faults { ReadsOnly (F.told files.old) (F.told files.new) (reads_of result) }
 {
-    let mut cache = Cache::new(alloc);
+    let mut cache = match Cache::new(alloc) {
+        Ok(cache) => cache,
+        Err(_) => return Err(AnalyseFault::Memory),
+    };
+    let mut fronts = Fronts::new(alloc);
     let units = ws.units();
     next_text(
         alloc,
         &mut cache,
         files,
+        &mut fronts,
         &units[number as usize - 1],
         number,
     )
@@ -80,8 +105,9 @@ fn unit_texts<F: Files>(
     ensures faults { ReadsOnly (F.told files.old) (F.told files.new) (reads_of result) }
 {
     let mut all = Vec::new(alloc);
+    let mut fronts = Fronts::new(alloc);
     for i in 0..units.len() {
-        match next_text(alloc, cache, files, &units[i], i as u32 + 1) {
+        match next_text(alloc, cache, files, &mut fronts, &units[i], i as u32 + 1) {
             Ok(text) => add(&mut all, text)?,
             Err(fault) => return Err(fault),
         }
@@ -96,14 +122,18 @@ fn add(all: &mut Vec<UnitText>, text: UnitText) -> Result<(), Memory>
     Ok(())
 }
 
-// The text of a unit, with what is kept from the units before, or its fault.
+// The text of a unit, with what is kept from the units before, or its fault. What it begins with as units before did is kept in
+// the fronts.
 pub(crate) fn next_text<F: Files>(
     alloc: Global,
     cache: &mut Cache,
     files: &mut F,
+    fronts: &mut Fronts,
     unit: &Unit,
     number: u32,
 ) -> Result<UnitText, AnalyseFault>
+    requires fronts { AreFronts cache.old.table fronts.old.all.items }
+    ensures fronts { OnOk result (AreFronts cache.new.table fronts.new.all.items) }
     ensures reads { ReadsMore (F.told files.old).held cache.old.table cache.new.table }
     ensures fresh { IsFresh number cache.old.table → OnOk result (IsFresh (number + 1) cache.new.table) }
     ensures answer { IsFresh number cache.old.table → (source : Source) → AreFound source cache.new.table →
@@ -111,7 +141,7 @@ pub(crate) fn next_text<F: Files>(
     ensures faults { ReadsOnly (F.told files.old) (F.told files.new) (reads_of result) }
 {
     let _path = unit.path();
-    let answered = preprocess(alloc, cache, files, unit, number);
+    let answered = preprocess_on(alloc, cache, files, fronts, unit, number);
     let _numbers = cache.numbers();
     in_its_unit(number, answered)
 }

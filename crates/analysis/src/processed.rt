@@ -26,8 +26,8 @@ fn token_count(a: &Accepted, number: u32) -> usize
     }
 }
 
-// No marks for the tokens of each file.
-fn blank(alloc: Global, a: &Accepted) -> Result<Vec<Marks>, Memory>
+/// No marks for the tokens of each file.
+pub(crate) fn blank(alloc: Global, a: &Accepted) -> Result<Vec<Marks>, Memory>
     ensures { IfOk result (λ marks. (n k : ℕ) → is_marked marks.items n k ≡ false) }
 {
     let mut marks = Vec::new(alloc);
@@ -85,8 +85,12 @@ fn mark_one(a: &Accepted, marks: &mut Vec<Marks>, reached: &Reached) -> Result<(
     }
 }
 
-// Marks the identifiers of the items that a unit reached.
-fn mark_reached(a: &Accepted, marks: &mut Vec<Marks>, reached: &[Reached]) -> Result<(), Memory>
+/// Marks the identifiers of the items that a unit reached.
+pub(crate) fn mark_reached(
+    a: &Accepted,
+    marks: &mut Vec<Marks>,
+    reached: &[Reached],
+) -> Result<(), Memory>
     ensures { OnOk result (MarksTokens a.now.table (flat_map (names_reached a.now.table) reached.now) marks.old.items marks.new.items) }
 {
     for i in 0..reached.len() {
@@ -99,15 +103,12 @@ fn mark_reached(a: &Accepted, marks: &mut Vec<Marks>, reached: &[Reached]) -> Re
 }
 
 // Marks the identifiers that the units reached.
-fn mark_units(a: &Accepted, marks: &mut Vec<Marks>) -> Result<(), Memory>
+fn mark_units(alloc: Global, a: &Accepted, marks: &mut Vec<Marks>) -> Result<(), Memory>
     ensures { OnOk result (MarksTokens a.now.table (names_processed a.now) marks.old.items marks.new.items) }
 {
-    let units = a.units();
-    for i in 0..units.len() {
-        match mark_reached(a, marks, units[i].text().reached()) {
-            Ok(()) => (),
-            Err(refusal) => return Err(refusal),
-        }
+    for k in 0..a.count() {
+        let unit = a.unit(alloc, k)?;
+        mark_reached(a, marks, unit.text().reached())?;
     }
     Ok(())
 }
@@ -117,6 +118,6 @@ pub(crate) fn processed(alloc: Global, a: &Accepted) -> Result<Vec<Marks>, Memor
     ensures { IfOk result (λ marks. AreMarked a.now.table (names_processed a.now) marks.items) }
 {
     let mut marks = blank(alloc, a)?;
-    mark_units(a, &mut marks)?;
+    mark_units(alloc, a, &mut marks)?;
     Ok(marks)
 }

@@ -76,8 +76,8 @@ fn learn_of(
     }
 }
 
-// The same with these fronts.
-fn read_known(
+/// The same with these fronts.
+pub(crate) fn read_known(
     alloc: Global,
     cache: &Cache,
     fronts: &[UnitFront],

@@ -1,7 +1,7 @@
 // Programs of GNU C, with a blank between every two tokens, and what their identifiers denote as gcc has it.
 
 /// Beside each program what `BOUND` says of one, or its first fault.
-pub(crate) const BOUND_BY_GNU: [(&[u8], &str); 43] = [
+pub(crate) const BOUND_BY_GNU: [(&[u8], &str); 51] = [
     // Attributes: their names and the first argument of some are words; other arguments are expressions, with a word in
     // front where nothing of its name is visible. A name is visible behind the attributes of its declarator.
     (
@@ -178,5 +178,39 @@ pub(crate) const BOUND_BY_GNU: [(&[u8], &str); 43] = [
     (
         b"void * __attribute__ ( ( x ( ( { int g ( int z ) ; 1 ; } ) ) ) ) f ( int q ) { return q ; }",
         ". . . . . . . . . . 10 . . 13 . . . . . . . . . 23 . . 26 . . . 26 . .",
+    ),
+    // A function that is called and not declared is declared by that, in the innermost block (ISO/IEC 9899:1990, 6.3.2.2);
+    // those of one spelling are one entity (6.2.2). What is not called is not declared, nor is what is visible.
+    (
+        b"int f ( void ) { g ( 1 ) ; return g ( 2 ) ; } int g ( int ) ;",
+        ". 1 . . . . 6 . . . . . 6 . . . . . . 6 . . . .",
+    ),
+    (
+        b"void f ( void ) { { g ( ) ; } { g ( ) ; } }",
+        ". 1 . . . . . 7 . . . . . 7 . . . . .",
+    ),
+    (
+        b"void f ( void ) { { g ( ) ; } g ; }",
+        "undeclared at token 12",
+    ),
+    (
+        b"int f ( int g ) { return g ( 1 ) ; }",
+        ". 1 . . 4 . . . 4 . . . . .",
+    ),
+    (
+        b"int f ( void ) { return g ( x ) ; }",
+        "undeclared at token 9",
+    ),
+    (
+        b"int f ( void ) { g ( ) ; } static int g ( void ) { return 1 ; }",
+        "mixed linkage at token 13",
+    ),
+    (
+        b"struct s { int m ; } ; int f ( void ) { return g ( ) -> m ; }",
+        "no member at token 19",
+    ),
+    (
+        b"int x = sizeof ( { g ( ) ; } ) + sizeof g ( ) ;",
+        ". 1 . . . . 6 . . . . . . . 6 . . .",
     ),
 ];

@@ -1,5 +1,5 @@
 -- The table of the first tokens of external names: one token more, one unit more.
-use Rattle.std.proofs.Common.{ℕ, ◌+◌, ◌<◌, ◌≤◌, ◌≡◌, Bool, ◌&&◌, cond, List, [], ◌∷◌, ◌++◌, length, min, get_or, drop, filter, Option, None, Some, slice_get, refl, sym, ap, subst, ◌∙◌, inl, inr, if◌then◌else◌, arith}
+use Rattle.std.proofs.Common.{ℕ, ◌+◌, ◌<◌, ◌≤◌, ◌≡◌, Bool, ◌&&◌, cond, List, [], ◌∷◌, ◌++◌, length, min, get_or, drop, filter, Option, None, Some, refl, sym, ap, subst, ◌∙◌, inl, inr, if◌then◌else◌, arith}
 use Rattle.std.specs.List.{flat_map}
 use Rattle.std.specs.Option.{option_or}
 use Rattle.std.specs.Str.{bytes_eq}
@@ -9,7 +9,6 @@ use Rattle.std.proofs.lemmas.Grind.{flat_map-append}
 use Rattle.std.proofs.lemmas.List.{drop_more, drop_all}
 use Rattle.std.proofs.lemmas.List.Elements.{filter-append}
 use Rattle.std.proofs.lemmas.List.Folds.{find-append}
-use Rattle.std.proofs.lemmas.Option.{slice_get_within, get_or_from_slice_get}
 use Rattle.cs_base.specs.Token.{Token}
 use Rattle.cs_base.specs.Units.{UnitValue}
 use Rattle.cs_base.proofs.OptionLemmas.{option_or-None}
@@ -119,14 +118,13 @@ abbrev pub UnitsTo : List ExternalNames → List ExternalNames → Table → Tab
 UnitsTo rest all old now = (last : Table) → AddsUnits rest now last → AddsUnits all old last
 
 pub units-next : (units : List UnitValue) (us : List UnitAnalysis) (i : ℕ) (unit : UnitValue) (u : UnitAnalysis) (all : List ExternalNames) (old mid new : Table)
-    → i < length units → unit ≡ get_or units i unit → slice_get us i ≡ Some u
+    → i < length units → i < length us → unit ≡ get_or units i unit → u ≡ get_or us i u
     → UnitsTo (names_of_units (drop i units) (drop i us)) all old mid
     → Adds unit.project (external_names_from u.bound.names 0 u.text.toks) mid new
     → UnitsTo (names_of_units (drop (i + 1) units) (drop (i + 1) us)) all old new
-units-next units us i unit u all old mid new within is at so_far here last later =
+units-next units us i unit u all old mid new within also is at so_far here last later =
     let one = names_of_unit unit u in
-    let also = slice_get_within us i u at in
-    let same : get_or us i u ≡ u = get_or_from_slice_get us i u u at in
+    let same : get_or us i u ≡ u = sym at in
     let rest = names_of_units (drop (i + 1) units) (drop (i + 1) us) in
     let more : names_of_units (drop i units) (drop i us) ≡ one ∷ rest =
     ap (λ (v : List UnitValue). names_of_units v (drop i us)) (drop_more units i unit within ∙ ap (λ (v : UnitValue). v ∷ drop (i + 1) units) (sym is))

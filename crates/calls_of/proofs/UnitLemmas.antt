@@ -1,8 +1,7 @@
 -- What units have, one unit after another.
-use Rattle.std.proofs.Common.{◌≡◌, ℕ, ◌+◌, ◌-◌, ◌<◌, ◌≤◌, List, [], ◌∷◌, ◌++◌, length, min, drop, get_or, Option, Some, slice_get, option_map, refl, sym, ap, ◌∙◌, inl, inr, append_assoc, arith}
+use Rattle.std.proofs.Common.{◌≡◌, ℕ, ◌+◌, ◌<◌, ◌≤◌, List, [], ◌∷◌, ◌++◌, length, min, drop, get_or, Option, refl, sym, ap, ◌∙◌, inl, inr, append_assoc, arith}
 use Rattle.std.proofs.lemmas.Bool.{cases_lt}
 use Rattle.std.proofs.lemmas.List.{append-nil, drop_more, drop_all}
-use Rattle.std.proofs.lemmas.Option.{slice_get-get_or, same_Some}
 use Rattle.cs_base.specs.declared.positions.Pos.{Pos}
 use Rattle.cs_base.specs.Token.{Token}
 use Rattle.cs_base.specs.Units.{UnitValue}
@@ -32,23 +31,16 @@ unfolding in_units
 none-first f us = refl
 
 -- those so far, and those still to come
-pub units-next : {X : Type 0} (f : UnitValue → UnitAnalysis → List X) (units : List UnitValue) (us : List UnitAnalysis) (i : ℕ) (unit : UnitValue)
-    (old new whole : List X) → i < length units → i < length us → unit ≡ get_or units i unit
-    → ((u : UnitAnalysis) → slice_get us (i + 1 - 1) ≡ Some u → new ≡ old ++ f unit u)
+pub units-next : {X : Type 0} (f : UnitValue → UnitAnalysis → List X) (units : List UnitValue) (us : List UnitAnalysis) (i : ℕ) (unit : UnitValue) (u : UnitAnalysis)
+    (old new whole : List X) → i < length units → i < length us → unit ≡ get_or units i unit → u ≡ get_or us i u → new ≡ old ++ f unit u
     → old ++ in_units f (drop i units) (drop i us) ≡ whole → new ++ in_units f (drop (i + 1) units) (drop (i + 1) us) ≡ whole
-units-next {X} f units us i unit old new whole within also is added so_far =
-    let none : UnitAnalysis = get us i also in
-    let u : UnitAnalysis = get_or us i none in
-    let same : i ≡ i + 1 - 1 = omega arith in
-    let at : slice_get us (i + 1 - 1) ≡ Some u = ap (slice_get us) (sym same) ∙ slice_get-get_or us i none also in
+units-next {X} f units us i unit u old new whole within also is at added so_far =
     let rest : List X = in_units f (drop (i + 1) units) (drop (i + 1) us) in
     let here : List X = f unit u in
-    ap (λ (xs : List X). xs ++ rest) (added u at) ∙ append_assoc old here rest
-    ∙ ap (λ (xs : List X). old ++ xs) (ap (λ (v : UnitValue). f v u ++ rest) is ∙ sym (in_units-more f units us i unit none within also)) ∙ so_far
-  where
-    get : (us : List UnitAnalysis) (i : ℕ) → i < length us → UnitAnalysis
-    get [] i less = absurd (omega (arith, less))
-    get (u ∷ us) i less = u
+    let more : in_units f (drop i units) (drop i us) ≡ here ++ rest =
+    in_units-more f units us i unit u within also ∙ ap (λ (v : UnitValue). f v (get_or us i u) ++ rest) (sym is)
+    ∙ ap (λ (v : UnitAnalysis). f unit v ++ rest) (sym at) in
+    ap (λ (xs : List X). xs ++ rest) added ∙ append_assoc old here rest ∙ ap (λ (xs : List X). old ++ xs) (sym more) ∙ so_far
 
 pub units-all : {X : Type 0} (f : UnitValue → UnitAnalysis → List X) (units : List UnitValue) (us : List UnitAnalysis) (i : ℕ) (now whole : List X)
     → min (length units) (length us) ≤ i → now ++ in_units f (drop i units) (drop i us) ≡ whole → now ≡ whole
@@ -60,10 +52,6 @@ units-all {X} f units us i now whole past so_far =
     sym (append-nil now) ∙ ap (λ (xs : List X). now ++ xs) (sym none) ∙ so_far
 
 -- ---- one unit
-
--- what is told of the unit by one of its parts
-pub part-of : {Y : Type 0} (f : UnitAnalysis → Y) (r : Option UnitAnalysis) (u : UnitAnalysis) (y : Y) → r ≡ Some u → option_map f r ≡ Some y → y ≡ f u
-part-of f r u y at told = sym (same_Some (f u) y (sym (ap (option_map f) at) ∙ told))
 
 module _ (a : AnalysisValue) (unit : UnitValue) (u : UnitAnalysis) (owner : Pos → Option Token) (first : List ℕ → List ℕ → Option Token) (project : List ℕ) (toks : List Token)
     (bound : Bound) (events : List Event) (owners : owner ≡ owner_of a) (firsts : first ≡ first_in a) (own : project ≡ unit.project) (toks_are : toks ≡ u.text.toks)

@@ -1,13 +1,12 @@
 -- What the functions say of a unit, by the tables.
-use Rattle.std.specs.Prelude.{ℕ, ◌-◌, ◌≡◌, Option, Some, List, ◌++◌, slice_get}
+use Rattle.std.specs.Prelude.{ℕ, ◌≡◌, Option, List}
 use Rattle.cs_base.specs.declared.positions.Pos.{Pos}
 use Rattle.cs_base.specs.Token.{Token}
-use Rattle.cs_base.specs.Units.{UnitValue}
 use Rattle.analysis.specs.Below.unit_steps.declared.events.Event.{Event}
 use Rattle.analysis.specs.Below.unit_steps.declared.events.EventKind.{EventKind}
 use Rattle.analysis.specs.Below.linkage_join.Firsts.{first_at}
 use Rattle.analysis.specs.Below.c_types.declared.lists.List.{List as NameList}
-use Rattle.analysis.specs.Analysis.{UnitAnalysis, AnalysisValue}
+use Rattle.analysis.specs.Analysis.{AnalysisValue}
 use Rattle.calls_of.specs.declared.nodes.Node.{Node}
 use Rattle.calls_of.specs.declared.known.Known.{Known}
 use Rattle.calls_of.specs.declared.one_unit.OneUnit.{OneUnit}
@@ -29,10 +28,6 @@ first_by known = first_at known.firsts.toks
 pub record AreKnown (a : AnalysisValue) (known : Known) : Type 0 where
   pub owners : owner_by known ≡ owner_of a
   pub firsts : first_by known ≡ told.first_in a
-
--- What a unit has was added; the unit has this number from 1 on.
-abbrev pub AddsOf : {X : Type 0} → (UnitValue → UnitAnalysis → List X) → AnalysisValue → UnitValue → ℕ → List X → List X → Type 0
-AddsOf f a unit number old new = (u : UnitAnalysis) → slice_get a.units (number - 1) ≡ Some u → new ≡ old ++ f unit u
 
 -- What is said of a unit by the tables.
 module _ (known : Known) (u : OneUnit) where

@@ -2,11 +2,11 @@
 ghost use Rattle.std.specs.Prelude.{◌≡◌, ◌∷◌, [], List, ℕ, None, IfOk, OnOk};
 ghost use Rattle.std.specs.Option.{option_copied};
 ghost use Rattle.analysis.specs.Below.linkage_join.Firsts.{first_at};
+ghost use Rattle.analysis.specs.Below.linkage_join.Linkage.{first_spelled, names_of};
 ghost use Rattle.analysis.specs.Links.{external_names_from, names_of_units};
-ghost use Rattle.calls_of.specs.Calls.{first_in};
 ghost use Rattle.calls_of.specs.Externals.{own_name, Adds, AddsUnits};
 
-use analysis::{Analysis, Bound, is_external_name};
+use analysis::{Bound, UnitAt, is_external_name};
 use cs_base::{Memory, Tok, Unit};
 use indexmap::IndexMap;
 use std::alloc::Global;
@@ -74,28 +74,28 @@ impl<'a> Firsts<'a> {
     }
 
     // So do those of all units.
-    fn keep_units(&mut self, units: &'a [Unit], a: &'a Analysis) -> Result<(), Memory>
-        ensures { OnOk result (AddsUnits (names_of_units units.now a.now.value.units) (first_at self.old.toks) (first_at self.new.toks)) }
+    fn keep_units(&mut self, units: &'a [Unit], all: &'a [UnitAt<'_>]) -> Result<(), Memory>
+        ensures { OnOk result (AddsUnits (names_of_units units.now all.now) (first_at self.old.toks) (first_at self.new.toks)) }
     {
-        for i in 0..units.len().min(a.units() as usize) {
-            let text = a.text(i as u32 + 1);
-            let bound = a.bound(i as u32 + 1);
+        for i in 0..units.len().min(all.len()) {
+            let one = &all[i];
+            let text = one.text();
+            let bound = one.bound();
             self.keep_unit(units[i].project().bytes(), text.toks(), bound)?;
         }
         Ok(())
     }
 
-    /// The table of an analysis, the units of whose workspace are these.
+    /// The table of these units of an analysis, for those of its workspace.
     pub(crate) fn of(
         alloc: Global,
         units: &'a [Unit],
-        a: &'a Analysis,
+        all: &'a [UnitAt<'_>],
     ) -> Result<Firsts<'a>, Memory>
-        requires { a.now.value.workspace.units ≡ units.now }
-        ensures { IfOk result (λ f. (project text : List ℕ) → first_at f.toks project text ≡ first_in a.now.value project text) }
+        ensures { IfOk result (λ f. (project text : List ℕ) → first_at f.toks project text ≡ first_spelled text (names_of project (names_of_units units.now all.now))) }
     {
         let mut firsts = Firsts::new(alloc);
-        firsts.keep_units(units, a)?;
+        firsts.keep_units(units, all)?;
         Ok(firsts)
     }
 }

@@ -1,15 +1,15 @@
 // The calls, the macros and the functions of all units.
-ghost use Rattle.std.specs.Prelude.{◌≡◌, ◌≤◌, ◌++◌, length, IfOk, OnOk};
+ghost use Rattle.std.specs.Prelude.{◌≡◌, ◌++◌, IfOk, OnOk};
 ghost use Rattle.std.specs.List.{flat_map};
 ghost use Rattle.calls_of.specs.Calls.{calls_in_unit, calls_of, in_units};
 ghost use Rattle.calls_of.specs.Graphs.{ends_of, nodes_in_unit, nodes_of};
-ghost use Rattle.calls_of.specs.InUnits.{AddsOf, AreKnown};
+ghost use Rattle.calls_of.specs.InUnits.{AreKnown};
 
 use crate::call::NamedCall;
 use crate::known::Known;
 use crate::named::Named;
 use crate::one_unit::OneUnit;
-use analysis::Analysis;
+use analysis::{AllUnits, Analysis, UnitAt};
 use cs_base::{Memory, Unit};
 use std::alloc::Global;
 
@@ -23,21 +23,19 @@ pub(crate) struct Found<'a> {
 // Adds the calls and the nodes of a unit.
 fn add_unit<'a>(
     alloc: Global,
-    a: &'a Analysis,
+    a: &Analysis,
     known: &Known<'a>,
     unit: &'a Unit,
-    number: u32,
+    read: &'a UnitAt<'_>,
     calls: &mut Vec<NamedCall<'a>>,
     nodes: &mut Vec<Named<'a>>,
 ) -> Result<(), Memory>
     requires known { AreKnown a.now.value known.now }
-    requires first { 1 ≤ number }
-    requires last { number ≤ length a.now.value.units }
-    ensures calls { OnOk result (AddsOf (calls_in_unit a.now.value) a.now.value unit.now number calls.old.items calls.new.items) }
-    ensures nodes { OnOk result (AddsOf (nodes_in_unit a.now.value) a.now.value unit.now number nodes.old.items nodes.new.items) }
+    ensures calls { OnOk result (calls.new.items ≡ calls.old.items ++ calls_in_unit a.now.value unit.now read.now) }
+    ensures nodes { OnOk result (nodes.new.items ≡ nodes.old.items ++ nodes_in_unit a.now.value unit.now read.now) }
 {
-    let text = a.text(number);
-    let bound = a.bound(number);
+    let text = read.text();
+    let bound = read.bound();
     let events = text.events();
     let one = OneUnit::new(alloc, unit.project().bytes(), text.toks(), bound)?;
     one.push_calls(known, events, calls)?;
@@ -49,17 +47,18 @@ fn add_unit<'a>(
 fn add_units<'a>(
     alloc: Global,
     units: &'a [Unit],
-    a: &'a Analysis,
+    a: &Analysis,
+    all: &'a [UnitAt<'_>],
     known: &Known<'a>,
     calls: &mut Vec<NamedCall<'a>>,
     nodes: &mut Vec<Named<'a>>,
 ) -> Result<(), Memory>
     requires { AreKnown a.now.value known.now }
-    ensures calls { OnOk result (calls.new.items ≡ calls.old.items ++ in_units (calls_in_unit a.now.value) units.now a.now.value.units) }
-    ensures nodes { OnOk result (nodes.new.items ≡ nodes.old.items ++ in_units (nodes_in_unit a.now.value) units.now a.now.value.units) }
+    ensures calls { OnOk result (calls.new.items ≡ calls.old.items ++ in_units (calls_in_unit a.now.value) units.now all.now) }
+    ensures nodes { OnOk result (nodes.new.items ≡ nodes.old.items ++ in_units (nodes_in_unit a.now.value) units.now all.now) }
 {
-    for i in 0..units.len().min(a.units() as usize) {
-        add_unit(alloc, a, known, &units[i], i as u32 + 1, calls, nodes)?;
+    for i in 0..units.len().min(all.len()) {
+        add_unit(alloc, a, known, &units[i], &all[i], calls, nodes)?;
     }
     Ok(())
 }
@@ -87,17 +86,19 @@ fn push_ends<'a>(nodes: &mut Vec<Named<'a>>, calls: &[NamedCall<'a>]) -> Result<
 pub(crate) fn all_found<'a>(
     alloc: Global,
     units: &'a [Unit],
-    a: &'a Analysis,
+    all: &'a AllUnits<'_>,
     known: &Known<'a>,
 ) -> Result<Found<'a>, Memory>
-    requires units { a.now.value.workspace.units ≡ units.now }
-    requires known { AreKnown a.now.value known.now }
-    ensures calls { IfOk result (λ f. f.calls.items ≡ calls_of a.now.value) }
-    ensures nodes { IfOk result (λ f. f.nodes.items ≡ nodes_of a.now.value) }
+    requires units { all.now.value.workspace.units ≡ units.now }
+    requires known { AreKnown all.now.value known.now }
+    ensures calls { IfOk result (λ f. f.calls.items ≡ calls_of all.now.value) }
+    ensures nodes { IfOk result (λ f. f.nodes.items ≡ nodes_of all.now.value) }
 {
+    let a = all.analysis();
+    let read = all.units();
     let mut calls = Vec::new(alloc);
     let mut nodes = Vec::new(alloc);
-    add_units(alloc, units, a, known, &mut calls, &mut nodes)?;
+    add_units(alloc, units, a, read, known, &mut calls, &mut nodes)?;
     push_ends(&mut nodes, &calls)?;
     Ok(Found { calls, nodes })
 }

@@ -12,7 +12,7 @@ use crate::named::Named;
 use crate::nodes::Edge;
 use crate::numbering::{edges_of, kept};
 use crate::ordering::{order_edges, order_nodes};
-use analysis::Analysis;
+use analysis::{AllUnits, Analysis};
 use cs_base::{Memory, Unit};
 use std::alloc::Global;
 
@@ -29,8 +29,24 @@ fn graph_of(alloc: Global, units: &[Unit], a: &Analysis) -> Result<Graph, Memory
     requires { a.now.value.workspace.units ≡ units.now }
     ensures { IfOk result (λ g. IsGraphOf a.now.value g) }
 {
-    let known = Known::of(alloc, units, a)?;
-    let found = all_found(alloc, units, a, &known)?;
+    let all = AllUnits::of(alloc, a)?;
+    let graph = graph_over(alloc, units, a, &all)?;
+    Ok(graph)
+}
+
+// The same, where all of its units are at hand.
+fn graph_over(
+    alloc: Global,
+    units: &[Unit],
+    a: &Analysis,
+    all: &AllUnits<'_>,
+) -> Result<Graph, Memory>
+    requires units { a.now.value.workspace.units ≡ units.now }
+    requires all { all.now ≡ a.now }
+    ensures { IfOk result (λ g. IsGraphOf a.now.value g) }
+{
+    let known = Known::of(alloc, units, all)?;
+    let found = all_found(alloc, units, all, &known)?;
     let calls = found.calls;
     let mut nodes = found.nodes;
     order_nodes(a, &mut nodes);

@@ -6,7 +6,7 @@ ghost use Rattle.calls_of.specs.InUnits.{owner_by, first_by, AreKnown};
 
 use crate::firsts::Firsts;
 use crate::owners::Owners;
-use analysis::Analysis;
+use analysis::AllUnits;
 use cs_base::{Memory, Tok, Unit};
 use std::alloc::Global;
 
@@ -19,12 +19,18 @@ pub(crate) struct Known<'a> {
 
 impl<'a> Known<'a> {
     /// Of an analysis, the units of whose workspace are these.
-    pub(crate) fn of(alloc: Global, units: &'a [Unit], a: &'a Analysis) -> Result<Known<'a>, Memory>
-        requires { a.now.value.workspace.units ≡ units.now }
-        ensures { IfOk result (AreKnown a.now.value) }
+    pub(crate) fn of(
+        alloc: Global,
+        units: &'a [Unit],
+        all: &'a AllUnits<'_>,
+    ) -> Result<Known<'a>, Memory>
+        requires { all.now.value.workspace.units ≡ units.now }
+        ensures { IfOk result (AreKnown all.now.value) }
     {
+        let a = all.analysis();
+        let read = all.units();
         let owners = Owners::of(alloc, a)?;
-        let firsts = Firsts::of(alloc, units, a)?;
+        let firsts = Firsts::of(alloc, units, read)?;
         Ok(Known { owners, firsts })
     }
 

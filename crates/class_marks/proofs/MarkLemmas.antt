@@ -11,7 +11,8 @@ use Rattle.std.proofs.lemmas.Option.{slice_get_within, slice_get-get_or, get_or_
 use Rattle.cs_base.specs.declared.positions.Pos.{Pos}
 use Rattle.cs_base.specs.declared.positions.Part.{Part}
 use Rattle.cs_base.specs.Token.{Token, origin_at}
-use Rattle.eclass_map.specs.ClassTable.{Table, Spot, HasParts, class_in, label, part_from}
+use Rattle.eclass_map.specs.declared.class_table.FoundPart.{FoundPart}
+use Rattle.eclass_map.specs.ClassTable.{Table, Spot, HasParts, class_in, label, part_from, part_of}
 use Rattle.eclass_map.specs.Positions.{holds}
 use Rattle.eclass_map.proofs.TokenFacts.{holding, along_of}
 use Rattle.eclass_map.proofs.PartLaws.{class_in_is}
@@ -32,6 +33,18 @@ class-marked marks d c within =
 -- a class that was just marked is marked
 pub marked_again : (marks : List Bool) (c : ℕ) → mark_class (mark_class marks c) c ≡ mark_class marks c
 marked_again marks c = set-set marks c true true
+
+-- ---- the part of a character, and its class
+
+pub found_class : (t : Table) (p : Pos) (r : Option FoundPart) → option_map (λ (f : FoundPart). f.part) r ≡ part_of t p
+    → IfSome r (λ f. class_in t f.part ≡ Some f.class) → option_map (λ (f : FoundPart). f.class) r ≡ class_at t (Some p)
+found_class t p None same class = ap (option_and_then (class_in t)) same
+found_class t p (Some f) same class = sym class ∙ ap (option_and_then (class_in t)) same
+
+pub found_parts : (t : Table) (r : Option FoundPart) → HasParts t → IfSome r (λ f. class_in t f.part ≡ Some f.class)
+    → IfSome r (λ f. HasParts t × (class_in t f.part ≡ Some f.class))
+found_parts t None parts class = tt
+found_parts t (Some f) parts class = (parts, class)
 
 -- ---- characters of one part
 

@@ -1,20 +1,20 @@
 // Marks on classes, set where a name touches them.
 ghost use Rattle.std.specs.Prelude.{◌≡◌, ◌<◌, ◌∷◌, [], ℕ, Some, IfOk, IfSome, OnOk, MatchBool, length, false, slice_index_or, option_copied, if◌then◌else◌};
 ghost use Rattle.std.specs.List.{flat_map};
-ghost use Rattle.std.specs.Option.{option_map_or};
+ghost use Rattle.std.specs.Option.{option_map, option_map_or};
 ghost use Rattle.cs_base.specs.declared.positions.Part.{Part};
-ghost use Rattle.eclass_map.specs.ClassTable.{class_in};
+ghost use Rattle.eclass_map.specs.ClassTable.{HasParts, class_in};
 ghost use Rattle.eclass_map.specs.Positions.{holds};
 ghost use Rattle.analysis.specs.Parts.{IsPart};
 ghost use Rattle.class_marks.specs.declared.roles.Role.{Role};
 ghost use Rattle.class_marks.specs.Touching.{HasRole};
-ghost use Rattle.class_marks.specs.Marks.{AreMarked, IsMarkedPart, is_within, mark_class, with_character, with_token, with_tokens};
+ghost use Rattle.class_marks.specs.Marks.{AreMarked, IsMarkedPart, class_at, is_within, mark_class, with_character, with_token, with_tokens};
 ghost use Rattle.class_marks.specs.Roles.{event_name, names_in, names_with, tokens_with};
 
 use crate::roles::{Role, event_has, token_has};
 use analysis::{Analysis, Bound, Event, UnitText};
 use cs_base::{Memory, Part, Pos, Tok};
-use eclass_map::Classes;
+use eclass_map::{Classes, FoundPart};
 use std::alloc::Global;
 
 // Marks a class.
@@ -26,15 +26,38 @@ pub(crate) fn mark_class(marks: &mut Vec<bool>, class: u32)
     }
 }
 
+// The part that a character comes from, and its class. What was found last is tried first.
+pub(crate) fn found_at(
+    classes: &Classes,
+    origin: Option<Pos>,
+    guess: &mut usize,
+) -> Option<FoundPart>
+    ensures class { option_map (λ f. f.class) result ≡ class_at classes.now origin }
+    ensures part { IfSome result (λ f. HasParts classes.now × (class_in classes.now f.part ≡ Some f.class)) }
+{
+    match origin {
+        Some(pos) => classes.found(pos, guess),
+        None => None,
+    }
+}
+
 // Marks the class of a character; and gives the part that it comes from.
-fn mark_character(marks: &mut Vec<bool>, classes: &Classes, origin: Option<Pos>) -> Option<Part>
+fn mark_character(
+    marks: &mut Vec<bool>,
+    classes: &Classes,
+    origin: Option<Pos>,
+    guess: &mut usize,
+) -> Option<Part>
     ensures answer { marks.new.items ≡ with_character classes.now marks.old.items origin }
     ensures part { IfSome result (IsMarkedPart classes.now marks.new.items) }
 {
-    let part = classes.part_at(origin?)?;
-    let class = classes.class_of(part)?;
-    mark_class(marks, class);
-    Some(part)
+    match found_at(classes, origin, guess) {
+        Some(found) => {
+            mark_class(marks, found.class);
+            Some(found.part)
+        }
+        None => None,
+    }
 }
 
 // The part holds the position.
@@ -60,6 +83,7 @@ fn mark_next(
     classes: &Classes,
     part: Option<Part>,
     origin: Option<Pos>,
+    guess: &mut usize,
 ) -> Option<Part>
     requires { IfSome part (IsMarkedPart classes.now marks.old.items) }
     ensures answer { marks.new.items ≡ with_character classes.now marks.old.items origin }
@@ -68,7 +92,7 @@ fn mark_next(
     if is_within(part, origin) {
         part
     } else {
-        mark_character(marks, classes, origin)
+        mark_character(marks, classes, origin, guess)
     }
 }
 
@@ -80,13 +104,13 @@ pub(crate) fn length(tok: &Tok) -> u32
 }
 
 // Marks the classes of a token.
-fn mark_token(marks: &mut Vec<bool>, classes: &Classes, tok: &Tok)
+fn mark_token(marks: &mut Vec<bool>, classes: &Classes, tok: &Tok, guess: &mut usize)
     ensures { marks.new.items ≡ with_token classes.now marks.old.items tok.now }
 {
     let count = length(tok);
     let mut part = None;
     for k in 0..count {
-        part = mark_next(marks, classes, part, tok.origins(k));
+        part = mark_next(marks, classes, part, tok.origins(k), guess);
     }
 }
 
@@ -104,11 +128,17 @@ fn named(role: Role, event: &Event) -> Option<&Tok>
 }
 
 // Marks those of the name of an event, if it has the role.
-fn mark_event(marks: &mut Vec<bool>, classes: &Classes, role: Role, event: &Event)
+fn mark_event(
+    marks: &mut Vec<bool>,
+    classes: &Classes,
+    role: Role,
+    event: &Event,
+    guess: &mut usize,
+)
     ensures { marks.new.items ≡ with_tokens classes.now marks.old.items (event_name role event.now) }
 {
     match named(role, event) {
-        Some(name) => mark_token(marks, classes, name),
+        Some(name) => mark_token(marks, classes, name, guess),
         None => {}
     }
 }
@@ -117,17 +147,18 @@ fn mark_event(marks: &mut Vec<bool>, classes: &Classes, role: Role, event: &Even
 fn mark_events(marks: &mut Vec<bool>, classes: &Classes, role: Role, events: &[Event])
     ensures { marks.new.items ≡ with_tokens classes.now marks.old.items (flat_map (event_name role) events.now) }
 {
+    let mut guess = 0;
     for event in events {
-        mark_event(marks, classes, role, event);
+        mark_event(marks, classes, role, event, &mut guess);
     }
 }
 
 // Marks those of a token, where it is wanted.
-fn mark_wanted(marks: &mut Vec<bool>, classes: &Classes, wanted: bool, tok: &Tok)
+fn mark_wanted(marks: &mut Vec<bool>, classes: &Classes, wanted: bool, tok: &Tok, guess: &mut usize)
     ensures { marks.new.items ≡ with_tokens classes.now marks.old.items (if wanted then tok.now ∷ [] else []) }
 {
     if wanted {
-        mark_token(marks, classes, tok);
+        mark_token(marks, classes, tok, guess);
     }
 }
 
@@ -152,9 +183,10 @@ fn mark_tokens(
     ensures { OnOk result (marks.new.items ≡ with_tokens classes.now marks.old.items (tokens_with role bound.now.names 0 toks.now)) }
 {
     let count = count_of(toks)?;
+    let mut guess = 0;
     for k in 0..count {
         let wanted = token_has(role, bound, k);
-        mark_wanted(marks, classes, wanted, &toks[k as usize]);
+        mark_wanted(marks, classes, wanted, &toks[k as usize], &mut guess);
     }
     Ok(())
 }
@@ -190,13 +222,8 @@ pub fn marks_of(alloc: Global, a: &Analysis, role: Role) -> Result<Vec<bool>, Me
     let classes = a.classes();
     let mut marks = blank(alloc, classes)?;
     for unit in 0..a.units() {
-        mark_unit(
-            &mut marks,
-            classes,
-            role,
-            a.text(unit + 1),
-            a.bound(unit + 1),
-        )?;
+        let one = a.unit(alloc, unit + 1)?;
+        mark_unit(&mut marks, classes, role, one.text(), one.bound())?;
     }
     Ok(marks)
 }

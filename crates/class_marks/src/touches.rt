@@ -8,7 +8,7 @@ ghost use Rattle.class_marks.specs.Marks.{AreMarked, class_at, mark_class, with_
 ghost use Rattle.class_marks.specs.Roles.{event_name, names_in, names_with, token_has, tokens_with};
 ghost use Rattle.class_marks.specs.Touches.{AreTouches, IsAddedPart, doing_has, doing_of, mark_touch, token_does};
 
-use crate::marks::{blank, count_of, is_within, length, mark_class};
+use crate::marks::{blank, count_of, found_at, is_within, length, mark_class};
 use crate::roles::{Role, event_has, is_external, is_kind, is_parameter};
 use analysis::{Analysis, Bound, EntityKind, Event, EventKind, Linkage, UnitText};
 use cs_base::{Memory, Part, Pos, Tok};
@@ -71,34 +71,18 @@ fn doing_of(bound: &Bound, k: u32, entity: u32) -> Doing
     }
 }
 
-// A part, and its class.
-#[derive(Clone, Copy)]
-pub struct FoundPart {
-    part: Part,
-    class: u32,
-}
-
-// The part that a character comes from, and its class.
-fn found_at(classes: &Classes, origin: Option<Pos>) -> Option<FoundPart>
-    ensures class { option_map (λ f. f.class) result ≡ class_at classes.now origin }
-    ensures part { IfSome result (λ f. HasParts classes.now × (class_in classes.now f.part ≡ Some f.class)) }
-{
-    let part = classes.part_at(origin?)?;
-    let class = classes.class_of(part)?;
-    Some(FoundPart { part, class })
-}
-
 // Adds the class of a character; and gives the part that it comes from.
 fn add_character(
     all: &mut Vec<u32>,
     classes: &Classes,
     origin: Option<Pos>,
+    guess: &mut usize,
 ) -> Result<Option<Part>, Memory>
     ensures answer { OnOk result ((marks : List Bool) → fold mark_class marks all.new.items
         ≡ with_character classes.now (fold mark_class marks all.old.items) origin) }
     ensures part { IfOk result (λ part. IfSome part (IsAddedPart classes.now all.new.items)) }
 {
-    match found_at(classes, origin) {
+    match found_at(classes, origin, guess) {
         Some(found) => {
             all.push(found.class)?;
             Ok(Some(found.part))
@@ -113,6 +97,7 @@ fn add_next(
     classes: &Classes,
     part: Option<Part>,
     origin: Option<Pos>,
+    guess: &mut usize,
 ) -> Result<Option<Part>, Memory>
     requires { IfSome part (IsAddedPart classes.now all.old.items) }
     ensures answer { OnOk result ((marks : List Bool) → fold mark_class marks all.new.items
@@ -122,19 +107,24 @@ fn add_next(
     if is_within(part, origin) {
         Ok(part)
     } else {
-        add_character(all, classes, origin)
+        add_character(all, classes, origin, guess)
     }
 }
 
 // The classes of a token.
-fn classes_of(alloc: Global, classes: &Classes, tok: &Tok) -> Result<Vec<u32>, Memory>
+fn classes_of(
+    alloc: Global,
+    classes: &Classes,
+    tok: &Tok,
+    guess: &mut usize,
+) -> Result<Vec<u32>, Memory>
     ensures { IfOk result (λ all. (marks : List Bool) → fold mark_class marks all.items ≡ with_token classes.now marks tok.now) }
 {
     let count = length(tok);
     let mut all = Vec::new(alloc);
     let mut part = None;
     for k in 0..count {
-        part = add_next(&mut all, classes, part, tok.origins(k))?;
+        part = add_next(&mut all, classes, part, tok.origins(k), guess)?;
     }
     Ok(all)
 }
@@ -146,11 +136,12 @@ fn push_name(
     classes: &Classes,
     doing: Doing,
     name: &Tok,
+    guess: &mut usize,
 ) -> Result<(), Memory>
     ensures { OnOk result ((role : Role) (marks : List Bool) → fold (mark_touch role) marks all.new.items
         ≡ with_tokens classes.now (fold (mark_touch role) marks all.old.items) (if doing_has role doing then name.now ∷ [] else [])) }
 {
-    let classes = classes_of(alloc, classes, name)?;
+    let classes = classes_of(alloc, classes, name, guess)?;
     all.push(Touch { doing, classes })?;
     Ok(())
 }
@@ -161,12 +152,13 @@ fn push_event(
     alloc: Global,
     classes: &Classes,
     event: &Event,
+    guess: &mut usize,
 ) -> Result<(), Memory>
     ensures { OnOk result ((role : Role) (marks : List Bool) → fold (mark_touch role) marks all.new.items
         ≡ with_tokens classes.now (fold (mark_touch role) marks all.old.items) (event_name role event.now)) }
 {
     match &event.name {
-        Some(name) => push_name(all, alloc, classes, Doing::Event(event.kind), name),
+        Some(name) => push_name(all, alloc, classes, Doing::Event(event.kind), name, guess),
         None => Ok(()),
     }
 }
@@ -181,8 +173,9 @@ fn push_events(
     ensures { OnOk result ((role : Role) (marks : List Bool) → fold (mark_touch role) marks all.new.items
         ≡ with_tokens classes.now (fold (mark_touch role) marks all.old.items) (flat_map (event_name role) events.now)) }
 {
+    let mut guess = 0;
     for event in events {
-        push_event(all, alloc, classes, event)?;
+        push_event(all, alloc, classes, event, &mut guess)?;
     }
     Ok(())
 }
@@ -195,12 +188,13 @@ fn push_token(
     bound: &Bound,
     k: u32,
     tok: &Tok,
+    guess: &mut usize,
 ) -> Result<(), Memory>
     ensures { OnOk result ((role : Role) (marks : List Bool) → fold (mark_touch role) marks all.new.items
         ≡ with_tokens classes.now (fold (mark_touch role) marks all.old.items) (if token_has role bound.now.names k then tok.now ∷ [] else [])) }
 {
     match bound.entity(k) {
-        Some(entity) => push_name(all, alloc, classes, doing_of(bound, k, entity), tok),
+        Some(entity) => push_name(all, alloc, classes, doing_of(bound, k, entity), tok, guess),
         None => Ok(()),
     }
 }
@@ -217,8 +211,9 @@ fn push_tokens(
         ≡ with_tokens classes.now (fold (mark_touch role) marks all.old.items) (tokens_with role bound.now.names 0 toks.now)) }
 {
     let count = count_of(toks)?;
+    let mut guess = 0;
     for k in 0..count {
-        push_token(all, alloc, classes, bound, k, &toks[k as usize])?;
+        push_token(all, alloc, classes, bound, k, &toks[k as usize], &mut guess)?;
     }
     Ok(())
 }
@@ -246,13 +241,8 @@ pub fn touches_of(alloc: Global, a: &Analysis) -> Result<Vec<Touch>, Memory>
     let classes = a.classes();
     let mut all = Vec::new(alloc);
     for unit in 0..a.units() {
-        push_unit(
-            &mut all,
-            alloc,
-            classes,
-            a.text(unit + 1),
-            a.bound(unit + 1),
-        )?;
+        let one = a.unit(alloc, unit + 1)?;
+        push_unit(&mut all, alloc, classes, one.text(), one.bound())?;
     }
     Ok(all)
 }

@@ -1,11 +1,12 @@
 -- Counting over units and edits, and early ends without a read.
-use Rattle.std.proofs.Common.{◌≡◌, ℕ, zero, suc, ◌+◌, ◌-◌, ◌<◌, List, [], ◌∷◌, drop, length, add-one, Some, Result, Ok, Err, ap, refl, arith}
+use Rattle.std.proofs.Common.{◌≡◌, ℕ, zero, suc, ◌+◌, ◌-◌, ◌<◌, List, [], ◌∷◌, drop, length, add-one, Some, Result, Ok, Err, ap, sym, ◌∙◌, refl, arith}
 use Rattle.std.specs.Prelude.{IfErr, IfSome, slice_get}
 use Rattle.std.specs.Option.{option_map}
 use Rattle.std.proofs.lemmas.Option.{same_Some, none-some}
 use Rattle.cs_base.specs.Edit.{Edit}
 use Rattle.cs_base.specs.Token.{Token}
 use Rattle.analysis.specs.Below.unit_steps.Texts.{UnitTextValue}
+use Rattle.analysis.proofs.OneUnitLemmas.{unit_of_number}
 use Rattle.analysis.specs.Analysis.{UnitAnalysis}
 use Rattle.analysis.specs.Counts.{tokens_in}
 use Rattle.cscout_run.specs.Answer.{places_in}
@@ -28,12 +29,13 @@ pub tokens_in-drop : (units : List UnitAnalysis) (k : ℕ) (t : UnitTextValue) �
 tokens_in-drop units k t at = rw add-one (tokens_in-suc units k t at)
 
 -- the same for the tokens of a unit that counts from 1
-pub tokens-step : (units : List UnitAnalysis) (k : ℕ) (t : UnitTextValue) (toks : List Token)
-    → option_map (λ u. u.text) (slice_get units (k + 1 - 1)) ≡ Some t → toks ≡ t.toks
+pub tokens-step : (units : List UnitAnalysis) (k : ℕ) (u : UnitAnalysis) (t : UnitTextValue) (toks : List Token)
+    → slice_get units (k + 1 - 1) ≡ Some u → t ≡ u.text → toks ≡ t.toks
     → tokens_in (drop k units) ≡ length toks + tokens_in (drop (k + 1) units)
-tokens-step units k t toks at is =
-    let same : k + 1 - 1 ≡ k = omega arith in
-    let there : option_map (λ u. u.text) (slice_get units k) ≡ Some t = rw same at at in
+tokens-step units k u t toks at text is =
+    let here : slice_get units k ≡ Some u = unit_of_number units k u at in
+    let there : option_map (λ (v : UnitAnalysis). v.text) (slice_get units k) ≡ Some t =
+    ap (option_map (λ (v : UnitAnalysis). v.text)) here ∙ ap (λ (x : UnitTextValue). Some x) (sym text) in
     rw is (tokens_in-drop units k t there)
 
 places_in-suc : (edits : List Edit) (k count : ℕ) → k < length edits → IfSome (slice_get edits k) (λ e. count ≡ e.count)

@@ -1,5 +1,5 @@
 // The generated workspace: made, analysed and renamed in memory, and counted. It touches no file.
-ghost use Rattle.std.specs.Prelude.{◌≡◌, ◌≤◌, IfErr};
+ghost use Rattle.std.specs.Prelude.{◌≡◌, ◌≤◌, IfErr, IfOk};
 ghost use Rattle.cs_base.specs.Limits.{most_tokens_of_all};
 ghost use Rattle.analysis.specs.Counts.{tokens_in};
 ghost use Rattle.generated.specs.Generated.{workspace_path};
@@ -12,7 +12,7 @@ use crate::units::stop_of;
 use crate::workspace_files::read_workspace;
 use analysis::{Analysis, analyse};
 use command_words::size_text;
-use cs_base::Edits;
+use cs_base::{Edits, Memory};
 use generated::{Unfailing, generate};
 use rename_plan::plan_rename;
 use std::alloc::Global;
@@ -37,7 +37,8 @@ fn size_of(alloc: Global, a: &Analysis, n: u32) -> Result<Ready, Stop>
 {
     match plan_rename(alloc, a, "h.h", 1, 12, b"sum", false) {
         Ok(edits) => {
-            let text = size_text(alloc, n, tokens(a), places(&edits))?;
+            let count = tokens(alloc, a)?;
+            let text = size_text(alloc, n, count, places(&edits))?;
             Ok(to_show(alloc, text))
         }
         Err(fault) => Err(Stop::from(fault)),
@@ -45,15 +46,16 @@ fn size_of(alloc: Global, a: &Analysis, n: u32) -> Result<Ready, Stop>
 }
 
 // How many tokens the units have.
-fn tokens(a: &Analysis) -> u32
+fn tokens(alloc: Global, a: &Analysis) -> Result<u32, Memory>
     requires { tokens_in a.now.value.units ≤ most_tokens_of_all }
-    ensures { result ≡ tokens_in a.now.value.units }
+    ensures { IfOk result (λ count. count ≡ tokens_in a.now.value.units) }
 {
     let mut sum = 0;
     for k in 0..a.units() {
-        sum += a.text(k + 1).toks().len() as u32;
+        let one = a.unit(alloc, k + 1)?;
+        sum += one.text().toks().len() as u32;
     }
-    sum
+    Ok(sum)
 }
 
 // How many places the edits change.

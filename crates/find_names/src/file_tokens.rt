@@ -90,13 +90,30 @@ impl FileTokens {
         Ok(())
     }
 
+    // Room for so many more.
+    fn make_room(&mut self, count: usize) -> Result<(), Memory>
+        ensures { OnOk result ((part : Part) → has_span self.new.spans part ≡ has_span self.old.spans part) }
+    {
+        self.spans.reserve(count)?;
+        Ok(())
+    }
+
+    // The same of a file, with room for all its tokens.
+    fn push_whole(&mut self, file: &KeptFile) -> Result<(), Memory>
+        ensures { OnOk result ((part : Part) → has_span self.new.spans part
+            ≡ (has_span self.old.spans part || list_any (is_span part) (kept_tokens file.now))) }
+    {
+        self.make_room(file.text().toks().len())?;
+        self.push_file(file)
+    }
+
     // Adds those of the kept file with this number, if there is one.
     fn push_numbered(&mut self, a: &Analysis, number: u32) -> Result<(), Memory>
         ensures { OnOk result ((part : Part) → has_span self.new.spans part
             ≡ (has_span self.old.spans part || list_any (is_span part) (option_map_or kept_tokens (kept_at a.now.value.table number) []))) }
     {
         match a.file(number) {
-            Some(file) => self.push_file(file),
+            Some(file) => self.push_whole(file),
             None => Ok(()),
         }
     }

@@ -11,14 +11,14 @@ use Rattle.c_types.specs.Types.{CType, arithmetic, array, nothing, unknown, poin
 use Rattle.c_types.specs.Tags.{number_in}
 use Rattle.c_types.specs.Trees.{is_node, is_at, is_list, first_token, last_token}
 use Rattle.c_types.specs.declared.frames.Position.{Position}
-use Rattle.c_types.specs.Declarations.{Facts, is_in, is_live, is_space, with_fault, with_use, with_begun, with_complete, with_declaration, in_scope, visible, spelling_at}
+use Rattle.c_types.specs.Declarations.{Facts, is_in, is_live, is_space, with_fault, with_use, with_begun, with_complete, with_declaration, in_scope, visible, linked, spelling_at}
 use Rattle.scope_bind.specs.Below.name_chains.Entering.{found_in}
 use Rattle.scope_bind.specs.Below.name_chains.Frames.{State, state, at_first}
-use Rattle.scope_bind.specs.Below.name_chains.Members.{member_used, member_type}
+use Rattle.scope_bind.specs.Below.name_chains.Members.{with_silent, member_used, member_type}
 use Rattle.scope_bind.specs.Expressions.{of_conditional, of_main, of_postfix, of_unary, found_after}
 use Rattle.scope_bind.specs.Labels.{with_label, with_jump}
 use Rattle.scope_bind.specs.Named.{Space, Declaration, Frame, Scope, no_label, redeclared, ordinary, labels}
-use Rattle.scope_bind.specs.Ordinary.{declared, named_facts, named_type}
+use Rattle.scope_bind.specs.Ordinary.{is_func, declared, named_facts, named_type}
 use Rattle.gnu_bind.specs.declared.roles.GnuRole.{GnuRole}
 use Rattle.gnu_bind.specs.declared.roles.GnuRole.TheVariants.{Standard as standard, Name as name, BlockLabel as block_label, Label as label, Jump as jump, Address as address, Path as path, Brace as brace}
 use Rattle.gnu_bind.specs.declared.senses.Sense.{Sense}
@@ -26,20 +26,20 @@ use Rattle.gnu_bind.specs.declared.senses.Special.{Special}
 use Rattle.gnu_bind.specs.declared.senses.Special.TheVariants.{Usual as usual, Open as open_, Word as word, Fetch as fetch, Choice as choice, Value as value}
 use Rattle.gnu_bind.specs.Alone.{stands_alone}
 use Rattle.gnu_bind.specs.BlockLabels.{block_labels, block_label as declared_label, block_label_used, function_jump, with_block_label, block_label_at, function_label, labelled_by, labelled, jumped_by, jumped}
-use Rattle.gnu_bind.specs.Names.{names_function, is_unseen, is_word, name_read, name_type, path_read, path_type}
+use Rattle.gnu_bind.specs.Names.{names_function, is_unseen, is_word, implied_entity, implied_function, implied_by, is_implied, implied, denoting, denoted_type, name_read, name_type, path_read, path_type}
 use Rattle.gnu_bind.specs.OpenLists.{open_list, open_after}
 use Rattle.gnu_bind.specs.Roles.{role_in}
 use Rattle.gnu_bind.specs.Senses.{third_or, second_or, name_behind, attribute_name, callee_in, is_fetch_by, is_value, is_fetching, is_choosing, is_outside, away, special_in, is_homeless, sense_in, usual_sense}
 use Rattle.gnu_bind.specs.Types.{is_extended, type_after}
 use Rattle.gnu_bind.specs.Walk.{has_braces, value_type, auto_name, auto_declared, type_in, frame_begun, begun, facts_by, type_by, place_by, read_as, read, with_auto, facts_ended, frame_ended, ended, walked}
-use Rattle.gnu_bind.specs.Words.{is_word_attribute, is_fetch, is_path_sign, is_extension}
+use Rattle.gnu_bind.specs.Words.{is_word_attribute, is_fetch, is_path_sign, begins_call, is_extension}
 use Rattle.scope_bind.specs.Moved.{moved_type, moved_space}
 use Rattle.scope_bind.proofs.MovedSpaces.{same_ordinary, same_labels, number_moved}
 use Rattle.scope_bind.proofs.MovedTypes.{type_if, adjusted_moved, target_moved, record_same, nothing_same, unknown_same, after_moved}
 use Rattle.scope_bind.specs.Carried.{carried, carried_facts, carried_frame, carried_state, AreCarried, IsBelow, behind_front}
 use Rattle.gnu_bind.specs.Fronts.{GnuFrontsBindAlike}
-use Rattle.scope_bind.proofs.CarriedFacts.{facts_if, is_there, fault_when, fault_along, in_along, begun_along, complete_along, jump_along, looked_along, visible_along, live_along}
-use Rattle.scope_bind.proofs.CarriedNames.{carried_scope, carried_name, body_there, declared_along, named_along, named_type_along}
+use Rattle.scope_bind.proofs.CarriedFacts.{facts_if, is_there, fault_when, fault_along, in_along, begun_along, complete_along, jump_along, looked_along, visible_along, linked_along, live_along}
+use Rattle.scope_bind.proofs.CarriedNames.{carried_scope, carried_name, body_there, func_along, declared_along, named_along, named_type_along}
 use Rattle.scope_bind.proofs.CarriedMembers.{member_used_along, member_type_along, label_along}
 use Rattle.scope_bind.proofs.CarriedNodes.{LowIndex, low_if, or_low, last_below, first_below, stays, goes_next, index_stays, found_along as standard_found, frame_along, alone_along, facts_along as entering_along, after_along, frame_left, kept_if}
 use Rattle.scope_bind.proofs.CarriedWalk.{facts_along, found_along, position_along, fronts_carried, begins_there}
@@ -207,20 +207,50 @@ module _ (m : ℕ → ℕ) (h : ℕ) (a b : List Token) (law : AreCarried m h a 
   word_same choice i facts = built_same i facts
   word_same value i facts = built_same i facts
 
-  name_along : (s : Special) (f : Frame) (i : ℕ) (facts : Facts) → name_read b s (Fr f) (m i) (F facts) ≡ F (name_read a s f i facts)
-  name_along s f i facts =
-      ap (λ c. if c || is_word b s (m i) (F facts) then F facts else named_facts b (Fr f) (m i) (F facts)) (function_same f i)
-      ∙ (ap (λ c. if names_function a f i || c then F facts else named_facts b (Fr f) (m i) (F facts)) (word_same s i facts)
-      ∙ facts_if m h a b law (names_function a f i || is_word a s i facts) facts (F facts) (named_facts a f i facts) (named_facts b (Fr f) (m i) (F facts)) refl
-      (named_along m h a b law f i facts))
+  implied_same : (f : Frame) (i : ℕ) (facts : Facts) → m (i + 1) ≡ m i + 1 → is_implied b (Fr f) (m i) (F facts) ≡ is_implied a f i facts
+  implied_same f i facts behind =
+      ap (λ (k : ℕ). begins_call (spelling_at b k) && (is_unseen b (m i) (F facts) && not (is_func b (Fr f) (m i)))) (sym behind)
+      ∙ (ap (λ x. begins_call x && (is_unseen b (m i) (F facts) && not (is_func b (Fr f) (m i)))) (law.texts.spelled (i + 1))
+      ∙ (ap (λ c. begins_call (spelling_at a (i + 1)) && (c && not (is_func b (Fr f) (m i)))) (unseen_same i facts)
+      ∙ ap (λ c. begins_call (spelling_at a (i + 1)) && (is_unseen a i facts && not c)) (func_along m h a b law f i)))
 
-  name_type_goes : (s : Special) (f : Frame) (i : ℕ) (facts : Facts) → name_type b s (Fr f) (m i) (F facts) ≡ T (name_type a s f i facts)
-  name_type_goes s f i facts =
-      ap (λ c. if c then array arithmetic else (if is_word b s (m i) (F facts) then unknown else named_type b (Fr f) (m i) (F facts))) (function_same f i)
-      ∙ (ap (λ c. if names_function a f i then array arithmetic else (if c then unknown else named_type b (Fr f) (m i) (F facts))) (word_same s i facts)
-      ∙ type_if m (names_function a f i) (array arithmetic) (if is_word a s i facts then unknown else named_type a f i facts) (array arithmetic)
-      (if is_word a s i facts then unknown else named_type b (Fr f) (m i) (F facts)) refl
-      (type_if m (is_word a s i facts) unknown (named_type a f i facts) unknown (named_type b (Fr f) (m i) (F facts)) refl (named_type_along m h a b law f i facts)))
+  implied_entity_along : (i : ℕ) (r : Option Declaration) → implied_entity (m i) (option_map C r) ≡ m (implied_entity i r)
+  implied_entity_along i None = refl
+  implied_entity_along i (Some d) = refl
+
+  implied_along : (s : Scope) (i : ℕ) (facts : Facts) → m (i + 1) ≡ m i + 1 → implied b (carried_scope m s) (m i) (F facts) ≡ F (implied a s i facts)
+  implied_along s i facts behind =
+      let e : ℕ = implied_entity i (linked a i facts) in
+      ap (λ r. implied_by (carried_scope m s) (m i) (implied_entity (m i) r) (F facts)) (linked_along m h a b law i facts)
+      ∙ (ap (λ (k : ℕ). implied_by (carried_scope m s) (m i) k (F facts)) (implied_entity_along i (linked a i facts))
+      ∙ ap (λ (k : ℕ). with_silent (record (C (implied_function s i e)) { from = k }) (with_use (m i) (m e) (F facts))) (sym behind))
+
+  denoting_along : (f : Frame) (i : ℕ) (facts : Facts) → m (i + 1) ≡ m i + 1 → denoting b (Fr f) (m i) (F facts) ≡ F (denoting a f i facts)
+  denoting_along f i facts behind =
+      ap (λ c. if c then implied b (carried_scope m f.scope) (m i) (F facts) else named_facts b (Fr f) (m i) (F facts)) (implied_same f i facts behind)
+      ∙ facts_if m h a b law (is_implied a f i facts) (implied a f.scope i facts) (implied b (carried_scope m f.scope) (m i) (F facts)) (named_facts a f i facts)
+      (named_facts b (Fr f) (m i) (F facts)) (implied_along f.scope i facts behind) (named_along m h a b law f i facts)
+
+  denoted_type_goes : (f : Frame) (i : ℕ) (facts : Facts) → m (i + 1) ≡ m i + 1 → denoted_type b (Fr f) (m i) (F facts) ≡ T (denoted_type a f i facts)
+  denoted_type_goes f i facts behind =
+      ap (λ c. if c then arithmetic else named_type b (Fr f) (m i) (F facts)) (implied_same f i facts behind)
+      ∙ type_if m (is_implied a f i facts) arithmetic (named_type a f i facts) arithmetic (named_type b (Fr f) (m i) (F facts)) refl
+      (named_type_along m h a b law f i facts)
+
+  name_along : (s : Special) (f : Frame) (i : ℕ) (facts : Facts) → m (i + 1) ≡ m i + 1 → name_read b s (Fr f) (m i) (F facts) ≡ F (name_read a s f i facts)
+  name_along s f i facts behind =
+      ap (λ c. if c || is_word b s (m i) (F facts) then F facts else denoting b (Fr f) (m i) (F facts)) (function_same f i)
+      ∙ (ap (λ c. if names_function a f i || c then F facts else denoting b (Fr f) (m i) (F facts)) (word_same s i facts)
+      ∙ facts_if m h a b law (names_function a f i || is_word a s i facts) facts (F facts) (denoting a f i facts) (denoting b (Fr f) (m i) (F facts)) refl
+      (denoting_along f i facts behind))
+
+  name_type_goes : (s : Special) (f : Frame) (i : ℕ) (facts : Facts) → m (i + 1) ≡ m i + 1 → name_type b s (Fr f) (m i) (F facts) ≡ T (name_type a s f i facts)
+  name_type_goes s f i facts behind =
+      ap (λ c. if c then array arithmetic else (if is_word b s (m i) (F facts) then unknown else denoted_type b (Fr f) (m i) (F facts))) (function_same f i)
+      ∙ (ap (λ c. if names_function a f i then array arithmetic else (if c then unknown else denoted_type b (Fr f) (m i) (F facts))) (word_same s i facts)
+      ∙ type_if m (names_function a f i) (array arithmetic) (if is_word a s i facts then unknown else denoted_type a f i facts) (array arithmetic)
+      (if is_word a s i facts then unknown else denoted_type b (Fr f) (m i) (F facts)) refl
+      (type_if m (is_word a s i facts) unknown (denoted_type a f i facts) unknown (denoted_type b (Fr f) (m i) (F facts)) refl (denoted_type_goes f i facts behind)))
 
   path_along : (f : Frame) (i : ℕ) (facts : Facts) → path_read b (Fr f) (m i) (F facts) ≡ F (path_read a f i facts)
   path_along f i facts =
@@ -305,7 +335,7 @@ module _ (m : ℕ → ℕ) (h : ℕ) (a b : List Token) (law : AreCarried m h a 
 
   facts_by_along : (r : GnuRole) (s : Sense) (i : ℕ) (f : Frame) (facts : Facts) → i + 1 < h → facts_by b r s (m i) (Fr f) (F facts) ≡ F (facts_by a r s i f facts)
   facts_by_along (standard r) s i f facts here = facts_along m h a b law some i here f facts r
-  facts_by_along name s i f facts here = name_along s.special f i facts
+  facts_by_along name s i f facts here = name_along s.special f i facts (goes_next m h a b law some i here)
   facts_by_along block_label s i f facts here = block_label_along f.scope i facts (goes_next m h a b law some i here)
   facts_by_along label s i f facts here = labelled_along s f i facts
   facts_by_along jump s i f facts here = jumped_along s i facts
@@ -316,7 +346,7 @@ module _ (m : ℕ → ℕ) (h : ℕ) (a b : List Token) (law : AreCarried m h a 
 
   type_by_along : (r : GnuRole) (s : Sense) (i : ℕ) (f : Frame) (facts : Facts) → i + 1 < h → type_by b r s (m i) (Fr f) (F facts) ≡ T (type_by a r s i f facts)
   type_by_along (standard r) s i f facts here = found_along m h a b law some i here f facts r
-  type_by_along name s i f facts here = name_type_goes s.special f i facts
+  type_by_along name s i f facts here = name_type_goes s.special f i facts (goes_next m h a b law some i here)
   type_by_along path s i f facts here = path_type_goes f i facts
   type_by_along block_label s i f facts here = refl
   type_by_along label s i f facts here = refl

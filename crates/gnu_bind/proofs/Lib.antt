@@ -2,7 +2,7 @@ mod TokenLemmas
 mod AloneLemmas
 mod WalkLemmas
 mod BoundLemmas
-mod StandardLemmas
+pub mod StandardLemmas
 pub mod Below
 mod JoinedLemmas
 mod GnuCarried

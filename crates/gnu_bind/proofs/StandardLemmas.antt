@@ -1,5 +1,5 @@
 -- The walk over a text that uses nothing of GNU C is that of the standards.
-use Rattle.std.proofs.Common.{ℕ, ◌+◌, ◌≡◌, Bool, true, false, ◌&&◌, ◌||◌, not, if◌then◌else◌, ◌==◌, ◌%◌, List, [], Option, None, Some, length, refl, sym, ap, ◌∙◌}
+use Rattle.std.proofs.Common.{ℕ, ◌+◌, ◌≡◌, Bool, true, false, ◌&&◌, ◌||◌, not, if◌then◌else◌, ◌==◌, ◌%◌, List, [], Option, None, Some, refl, sym, ap, ◌∙◌}
 use Rattle.std.specs.Option.{option_map_or, option_or}
 use Rattle.std.proofs.lemmas.Bool.{false≢true, and_parts}
 use Rattle.cs_base.specs.Token.{Token}
@@ -15,7 +15,7 @@ use Rattle.c_types.specs.Trees.{is_node, is_list, has_node, last_token, first_li
 use Rattle.c_types.specs.Shapes.{is_end}
 use Rattle.c_types.specs.Declarations.{Facts}
 use Rattle.c_types.specs.declared.frames.Frame.{Frame}
-use Rattle.scope_bind.specs.Below.name_chains.Frames.{State, at_first}
+use Rattle.scope_bind.specs.Below.name_chains.Frames.{State}
 use Rattle.scope_bind.specs.Below.name_chains.Entering.{found_in, alone_in, frame_in, entered}
 use Rattle.scope_bind.specs.declared.roles.Role.{Role}
 use Rattle.scope_bind.specs.declared.roles.Role.TheVariants.{Plain, Primary as APrimary, Label as ALabel, Jump as AJump, Designated}
@@ -23,7 +23,6 @@ use Rattle.scope_bind.specs.Roles.{role_if, role_of}
 use Rattle.scope_bind.specs.Ordinary.{named_facts, named_type}
 use Rattle.scope_bind.specs.Expressions.{found_after, of_unary, of_main}
 use Rattle.scope_bind.specs.Walk.{passed_as, passed, facts_after, kept_after, frame_after, left, walked as standard_walked}
-use Rattle.scope_bind.specs.Bound.{bound_after, binding_of}
 use Rattle.gnu_bind.specs.declared.senses.Special.{Special}
 use Rattle.gnu_bind.specs.declared.senses.Special.TheVariants.{Usual as usual, Fetch as fetch, Choice as choice, Value as value}
 use Rattle.gnu_bind.specs.declared.senses.Sense.{Sense}
@@ -31,13 +30,12 @@ use Rattle.gnu_bind.specs.Senses.{omits_second, declares_labels, special_if, is_
 use Rattle.gnu_bind.specs.declared.roles.GnuRole.{GnuRole}
 use Rattle.gnu_bind.specs.declared.roles.GnuRole.TheVariants.{Standard, Name, BlockLabel as NewBlockLabel, Label as NewLabel, Jump as NewJump, Address as NewAddress, Brace}
 use Rattle.gnu_bind.specs.Roles.{gnu_if, is_brace, role_in}
-use Rattle.gnu_bind.specs.Names.{names_function, is_word, is_unseen}
+use Rattle.gnu_bind.specs.Names.{names_function, is_word, is_unseen, is_implied, implied, denoting, denoted_type}
 use Rattle.gnu_bind.specs.OpenLists.{open_list, open_after}
 use Rattle.gnu_bind.specs.Types.{is_extended, type_after}
 use Rattle.gnu_bind.specs.Alone.{is_attribute, has_other, is_one_specifier, is_lone_specifier, ends_in, is_lone, stands_alone}
 use Rattle.gnu_bind.specs.Walk.{type_in, has_braces, begun, read_as, facts_ended, ended, walked}
-use Rattle.gnu_bind.specs.Bound.{gnu_binding_of}
-use Rattle.gnu_bind.specs.Standards.{HasNoWord, is_shared, is_token_place, is_child, is_old, has_some, is_unextended, has_block, is_form, is_filled, is_standard, StandardTextsBindAlike, StandardsBindAlike}
+use Rattle.gnu_bind.specs.Standards.{HasNoWord, is_shared, is_token_place, is_child, is_old, has_some, is_unextended, has_block, is_form, is_filled, is_standard, StandardsBindAlike}
 
 usual_either : (c : Bool) → special_if c usual ≡ usual
 usual_either true = refl
@@ -134,7 +132,14 @@ kept_same : (p : Production) (n : ℕ) (f : Frame) (under : Forest) → is_form 
 kept_same Declarator n f under e = open_same under (not_true (has_block under) e)
 kept_same _ n f under e = refl
 
-module _ (toks : List Token) (h : HasNoWord toks) where
+-- What is so of facts behind a step of the standards was so before it, and where it is so behind a name none is called that is not visible.
+pub record GoesBack (toks : List Token) (P : Facts → Type 0) : Type 0 where
+  pub seen : (f : Frame) (i : ℕ) (facts : Facts) → P (named_facts toks f i facts) → is_implied toks f i facts ≡ false
+  pub passed : (r : Role) (i : ℕ) (t : State) → P (passed_as toks r i t).facts → P t.facts
+  pub entered : (l : Label) (first : ℕ) (under : Forest) (t : State) → P (entered toks l first under t).facts → P t.facts
+  pub left : (l : Label) (first : ℕ) (under : Forest) (t t' : State) → P (left toks l first under t t').facts → P t'.facts
+
+module _ (toks : List Token) (h : HasNoWord toks) (P : Facts → Type 0) (law : GoesBack toks P) where
   -- ---- A token is read
 
   names_none : (f : Frame) (i : ℕ) → names_function toks f i ≡ false
@@ -148,16 +153,19 @@ module _ (toks : List Token) (h : HasNoWord toks) where
     frame = record t.frame { nth = t.frame.nth + 1; token = i; found = found; position = t.frame.position };
   }
 
-  name_same : (c : Bool) (i : ℕ) (t : State) → read_as toks (gnu_if c Name) usual_sense i t ≡ passed_as toks (role_if c APrimary) i t
-  name_same false i t = refl
-  name_same true i t =
+  name_same : (c : Bool) (i : ℕ) (t : State) → P (passed_as toks (role_if c APrimary) i t).facts
+      → read_as toks (gnu_if c Name) usual_sense i t ≡ passed_as toks (role_if c APrimary) i t
+  name_same false i t p = refl
+  name_same true i t p =
       let f : Frame = t.frame in
       let word : Bool = is_word toks usual i t.facts in
       let no_word : word ≡ false = ap (λ c. c && is_unseen toks i t.facts) (h.functions i) in
-      let facts : Facts = named_facts toks f i t.facts in
-      ap (λ c. read_so i t (if c || word then t.facts else facts)
-      (if c then array arithmetic else (if word then unknown else named_type toks f i t.facts))) (names_none f i)
-      ∙ ap (λ c. read_so i t (if c then t.facts else facts) (if c then unknown else named_type toks f i t.facts)) no_word
+      let facts : Facts = denoting toks f i t.facts in
+      let type : CType = denoted_type toks f i t.facts in
+      ap (λ c. read_so i t (if c || word then t.facts else facts) (if c then array arithmetic else (if word then unknown else type))) (names_none f i)
+      ∙ (ap (λ c. read_so i t (if c then t.facts else facts) (if c then unknown else type)) no_word
+      ∙ ap (λ c. read_so i t (if c then implied toks f.scope i t.facts else named_facts toks f i t.facts) (if c then arithmetic else named_type toks f i t.facts))
+      (law.seen f i t.facts p))
 
   label_same : (c d : Bool) (i : ℕ) (t : State)
       → read_as toks (if c then NewLabel else gnu_if d NewJump) usual_sense i t ≡ passed_as toks (if c then ALabel else role_if d AJump) i t
@@ -177,17 +185,17 @@ module _ (toks : List Token) (h : HasNoWord toks) where
   other_same true g i t e = absurd (false≢true e)
   other_same false g i t e = refl
 
-  read_same : (p : Production) (a k i : ℕ) (t : State) → is_token_place p a k ≡ true
+  read_same : (p : Production) (a k i : ℕ) (t : State) → is_token_place p a k ≡ true → P (passed_as toks (role_of p a k) i t).facts
       → read_as toks (role_in p a k) usual_sense i t ≡ passed_as toks (role_of p a k) i t
-  read_same Primary a k i t e = name_same (a == 1) i t
-  read_same SuRest a k i t e = brace_same (is_brace a k) (role_of SuRest a k) i t e
-  read_same InitItem a k i t e = designated_same ((a == 2) && (k == 0)) i t e
-  read_same Unary a k i t e = other_same ((a == 4) && (k == 1)) NewAddress i t e
-  read_same MemberPath a k i t e = absurd (false≢true e)
-  read_same BlockItem a k i t e = other_same ((a == 7) && (k % 2 == 1)) NewBlockLabel i t e
-  read_same Statement a k i t e = label_same ((a == 1) && (k == 0)) ((a == 10) && (k == 1)) i t
-  read_same AsmPart a k i t e = absurd (false≢true e)
-  read_same _ a k i t e = refl
+  read_same Primary a k i t e so = name_same (a == 1) i t so
+  read_same SuRest a k i t e so = brace_same (is_brace a k) (role_of SuRest a k) i t e
+  read_same InitItem a k i t e so = designated_same ((a == 2) && (k == 0)) i t e
+  read_same Unary a k i t e so = other_same ((a == 4) && (k == 1)) NewAddress i t e
+  read_same MemberPath a k i t e so = absurd (false≢true e)
+  read_same BlockItem a k i t e so = other_same ((a == 7) && (k % 2 == 1)) NewBlockLabel i t e
+  read_same Statement a k i t e so = label_same ((a == 1) && (k == 0)) ((a == 10) && (k == 1)) i t
+  read_same AsmPart a k i t e so = absurd (false≢true e)
+  read_same _ a k i t e so = refl
 
   -- ---- The sense of a node
 
@@ -319,14 +327,24 @@ module _ (toks : List Token) (h : HasNoWord toks) where
 
   -- ---- The walk
 
-  pub walked_same : (f : Forest) (t : State) → is_standard t.frame.label t.frame.nth f ≡ true → walked toks usual_sense f t ≡ standard_walked toks f t
+  walk_back : (f : Forest) (t : State) → P (standard_walked toks f t).facts → P t.facts
+  unfolding standard_walked
+  walk_back none t so = so
+  walk_back (token i rest) t so = law.passed (role_of t.frame.label.production t.frame.label.alternative t.frame.nth) i t (walk_back rest (passed toks i t) so)
+  walk_back (node m first under rest) t so =
+      let t' : State = standard_walked toks under (entered toks m first under t) in
+      law.entered m first under t (walk_back under (entered toks m first under t) (law.left m first under t t' (walk_back rest (left toks m first under t t') so)))
+
+  pub walked_same : (f : Forest) (t : State) → is_standard t.frame.label t.frame.nth f ≡ true → P (standard_walked toks f t).facts
+      → walked toks usual_sense f t ≡ standard_walked toks f t
   unfolding walked standard_walked
-  walked_same none t e = refl
-  walked_same (token i rest) t e =
+  walked_same none t e so = refl
+  walked_same (token i rest) t e so =
       let l : Label = t.frame.label in
       let parts = and_parts (is_token_place l.production l.alternative t.frame.nth) (is_standard l (t.frame.nth + 1) rest) e in
-      ap (walked toks usual_sense rest) (read_same l.production l.alternative t.frame.nth i t parts.0) ∙ walked_same rest (passed toks i t) parts.1
-  walked_same (node m first under rest) t e =
+      ap (walked toks usual_sense rest) (read_same l.production l.alternative t.frame.nth i t parts.0 (walk_back rest (passed toks i t) so))
+      ∙ walked_same rest (passed toks i t) parts.1 so
+  walked_same (node m first under rest) t e so =
       let l : Label = t.frame.label in
       let around : Bool = is_shared l.production && is_old l.production l.alternative in
       let inside : Bool = is_form m.production under && is_filled m under in
@@ -339,16 +357,13 @@ module _ (toks : List Token) (h : HasNoWord toks) where
       let form = and_parts (is_form m.production under) (is_filled m under) old.1 in
       let below = and_parts (is_standard m 0 under) (is_standard l (t.frame.nth + 1) rest) all.1 in
       let t' : State = standard_walked toks under (entered toks m first under t) in
+      let so' : P t'.facts = law.left m first under t t' (walk_back rest (left toks m first under t t') so) in
       ap (λ s. walked toks usual_sense rest (ended toks usual_sense m first under t (walked toks s under (begun toks m first under s t))))
       (sense_same m.production under t.frame of_m.0 form.0)
       ∙ (ap (λ b. walked toks usual_sense rest (ended toks usual_sense m first under t (walked toks usual_sense under b))) (begun_same m first under t of_m.0 old.0 form.0 below.0 form.1)
-      ∙ (ap (λ b. walked toks usual_sense rest (ended toks usual_sense m first under t b)) (walked_same under (entered toks m first under t) below.0)
+      ∙ (ap (λ b. walked toks usual_sense rest (ended toks usual_sense m first under t b)) (walked_same under (entered toks m first under t) below.0 so')
       ∙ (ap (walked toks usual_sense rest) (ended_same m first under t t' of_l.0 of_l.1 of_m.0 form.0)
-      ∙ walked_same rest (left toks m first under t t') below.1)))
-
-pub standard_texts : StandardTextsBindAlike
-unfolding gnu_binding_of binding_of
-standard_texts toks tree h e = ap (λ (s : State). bound_after tree.under s.facts) (walked_same toks h tree.under (at_first (length toks)) e)
+      ∙ walked_same rest (left toks m first under t t') below.1 so)))
 
 pub by_standards : StandardsBindAlike
 by_standards C99 toks tree = refl

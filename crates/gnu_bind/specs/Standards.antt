@@ -1,5 +1,5 @@
 -- Texts that use nothing of GNU C, as far as binding asks.
-use Rattle.std.specs.Prelude.{ℕ, ◌+◌, ◌==◌, ◌%◌, ◌≡◌, Bool, true, false, ◌&&◌, ◌||◌, not, if◌then◌else◌, List}
+use Rattle.std.specs.Prelude.{ℕ, ◌+◌, ◌==◌, ◌%◌, ◌≡◌, Bool, true, false, ◌&&◌, ◌||◌, not, if◌then◌else◌, List, Ok}
 use Rattle.cs_base.specs.Token.{Token}
 use Rattle.c99_tree.specs.Tree.{Forest, none, token, node, Node}
 use Rattle.c99_tree.specs.declared.production.Label.{Label}
@@ -9,7 +9,7 @@ use Rattle.c99_tree.specs.contracts.production.ProductionPartialEq.TheImpl.{ghos
 use Rattle.c_types.specs.Trees.{is_node, has_node}
 use Rattle.c_types.specs.Declarations.{spelling_at}
 use Rattle.scope_bind.specs.Below.name_chains.Frames.{outermost}
-use Rattle.scope_bind.specs.Bound.{binding_of}
+use Rattle.scope_bind.specs.Bound.{Bound, binding_of}
 use Rattle.cs_base.specs.Reserved.{is_built_in, is_function_word}
 use Rattle.cs_base.specs.Units.{is_gnu}
 use Rattle.cs_base.specs.declared.ws_units.Standard.{Standard}
@@ -100,10 +100,11 @@ is_standard l k (node m first under rest) =
     ((is_shared l.production && is_old l.production l.alternative) && (is_child l.production m.production && (is_old m.production m.alternative && (is_form m.production under && is_filled m under))))
     && (is_standard m 0 under && is_standard l (k + 1) rest)
 
--- such a text binds as by the standards
+-- such a text, where it binds by the standards, binds so by GNU C: of the others some call what no declaration is visible of
 abbrev pub StandardTextsBindAlike : Type 0
 StandardTextsBindAlike =
-    (toks : List Token) (tree : Node) → HasNoWord toks → is_standard (outermost 0).label 0 tree.under ≡ true → gnu_binding_of toks tree ≡ binding_of toks tree
+    (toks : List Token) (tree : Node) (b : Bound) → HasNoWord toks → is_standard (outermost 0).label 0 tree.under ≡ true → binding_of toks tree ≡ Ok b
+    → gnu_binding_of toks tree ≡ Ok b
 
 -- a text binds by an edition of ISO/IEC 9899 as by all of them, and by each standard of GNU C as by GNU C
 abbrev pub StandardsBindAlike : Type 0

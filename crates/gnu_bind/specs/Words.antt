@@ -30,6 +30,10 @@ is_fetch text = list_any (starts_with eqb text) fetch_prefixes || list_any (byte
 unfoldable pub is_path_sign : List ℕ → Bool
 is_path_sign text = list_any (bytes_eq text) (codes "." ∷ codes "[" ∷ codes "]" ∷ codes "<:" ∷ codes ":>" ∷ [])
 
+-- the sign that begins the arguments of a call (6.5.2)
+unfoldable pub begins_call : List ℕ → Bool
+begins_call text = bytes_eq text (codes "(")
+
 -- it says nothing of its operand
 unfoldable pub is_extension : List ℕ → Bool
 is_extension text = bytes_eq text (codes "__extension__")

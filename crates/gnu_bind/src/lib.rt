@@ -35,9 +35,7 @@ mod words;
 
 pub use binding::{bind, bind_by};
 pub use fronts::{BoundFront, bind_from};
-pub use laws::{
-    fronts_bind_alike, gnu_fronts_bind_alike, standard_texts_bind_alike, standards_bind_alike,
-};
+pub use laws::{fronts_bind_alike, gnu_fronts_bind_alike, standards_bind_alike};
 pub use roles::GnuRole;
 pub use scope_bind::{BindRefusal, Bound, EntityKind, Linkage, List, Name, Range};
 pub use senses::{Sense, Special};

@@ -39,7 +39,7 @@ fn facts_by(
 {
     match role {
         GnuRole::Standard(standard) => facts.read(alloc, standard, i, f),
-        GnuRole::Name => read_name(facts, sense.special, f, i),
+        GnuRole::Name => read_name(facts, alloc, sense.special, f, i),
         GnuRole::BlockLabel => declare_block_label(facts, alloc, f.scope, i),
         GnuRole::Label => label(facts, alloc, sense, f, i),
         GnuRole::Jump => jump(facts, sense, i),

@@ -1,9 +1,9 @@
 // Words of GNU C that binding asks for.
-ghost use Rattle.std.specs.Prelude.{◌≡◌, eqb};
+ghost use Rattle.std.specs.Prelude.{◌≡◌, ◌+◌, eqb};
 ghost use Rattle.std.specs.List.{list_any, starts_with};
 ghost use Rattle.std.specs.Str.{bytes_eq};
 ghost use Rattle.c_types.specs.Declarations.{spelling_at};
-ghost use Rattle.gnu_bind.specs.Words.{is_word_attribute, fetch_prefixes, fetch_words, is_fetch, is_path_sign, is_extension};
+ghost use Rattle.gnu_bind.specs.Words.{is_word_attribute, fetch_prefixes, fetch_words, is_fetch, is_path_sign, begins_call, is_extension};
 
 use cs_base::Tok;
 
@@ -12,6 +12,16 @@ pub(crate) fn spelling(toks: &[Tok], k: u32) -> &[u8]
     ensures { result.now ≡ spelling_at toks.now k }
 {
     match toks.get(k as usize) {
+        Some(tok) => tok.text(),
+        None => &[],
+    }
+}
+
+/// How the token behind it is spelled.
+pub(crate) fn spelling_behind(toks: &[Tok], k: u32) -> &[u8]
+    ensures { result.now ≡ spelling_at toks.now (k + 1) }
+{
+    match toks.get(k as usize + 1) {
         Some(tok) => tok.text(),
         None => &[],
     }
@@ -99,6 +109,14 @@ pub(crate) fn is_path_sign(text: &[u8]) -> bool
     ensures { result ≡ is_path_sign text.now }
 {
     is_one_of(text, &[b".", b"[", b"]", b"<:", b":>"])
+}
+
+/// The sign that begins the arguments of a call.
+#[tactic(auto, unfolding(crate::specs::Words::begins_call))]
+pub(crate) fn begins_call(text: &[u8]) -> bool
+    ensures { result ≡ begins_call text.now }
+{
+    text == b"(".as_slice()
 }
 
 /// It says nothing of its operand.

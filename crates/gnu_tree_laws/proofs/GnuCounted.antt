@@ -23,7 +23,7 @@ use Rattle.gnu_bind.specs.declared.roles.GnuRole.TheVariants.{Standard, Name, Bl
 use Rattle.gnu_bind.specs.Words.{is_path_sign}
 use Rattle.gnu_bind.specs.Roles.{role_in}
 use Rattle.gnu_bind.specs.Senses.{sense_in, away}
-use Rattle.gnu_bind.specs.Names.{names_function, is_word, name_read, path_read}
+use Rattle.gnu_bind.specs.Names.{names_function, is_word, is_implied, implied, denoting, name_read, path_read}
 use Rattle.gnu_bind.specs.BlockLabels.{block_labels, block_label, with_block_label, block_label_at, function_label, labelled_by, labelled, jumped_by, jumped}
 use Rattle.gnu_bind.specs.Walk.{auto_name, auto_declared, facts_by, read, begun, facts_ended, ended, walked}
 use Rattle.tree_laws.specs.TreesOfTexts.{has_body, has_form, have_forms}
@@ -40,10 +40,18 @@ no_auto _ same = absurd (false≢true same)
 module _ (toks : List Token) (t : ℕ) where
   -- ---- A token
 
+  implied_adds : (scope : Scope) (i : ℕ) (facts : Facts) → Adds t (hit t i) facts (implied toks scope i facts)
+  implied_adds scope i facts = record { names = omega arith; jumps = refl }
+
+  denoting_adds : (f : Frame) (i : ℕ) (facts : Facts) → Adds t (hit t i) facts (denoting toks f i facts)
+  denoting_adds f i facts =
+      either_adds t (hit t i) (is_implied toks f i facts) facts (implied toks f.scope i facts) (named_facts toks f i facts)
+      (implied_adds f.scope i facts) (named_adds toks t (is_func toks f i) i facts)
+
   name_adds : (s : Special) (f : Frame) (i : ℕ) (facts : Facts) → Adds t (hit t i) facts (name_read toks s f i facts)
   name_adds s f i facts =
-      either_adds t (hit t i) (names_function toks f i || is_word toks s i facts) facts facts (named_facts toks f i facts)
-      (adds_none t (hit t i) facts) (named_adds toks t (is_func toks f i) i facts)
+      either_adds t (hit t i) (names_function toks f i || is_word toks s i facts) facts facts (denoting toks f i facts)
+      (adds_none t (hit t i) facts) (denoting_adds f i facts)
 
   path_adds : (f : Frame) (i : ℕ) (facts : Facts) → Adds t (hit t i) facts (path_read toks f i facts)
   path_adds f i facts =

@@ -10,9 +10,9 @@ use Rattle.c99_tree.specs.declared.production.Production.{Production}
 use Rattle.c99_tree.specs.declared.production.Production.TheVariants.{AutoDecl}
 use Rattle.gnu_bind.specs.Below.c_types.Trees.{last_token}
 use Rattle.gnu_bind.specs.Below.c_types.Tags.{number_in}
-use Rattle.gnu_bind.specs.Below.c_types.Declarations.{Facts, is_in, is_live, with_fault, with_use, with_begun, in_scope, visible}
+use Rattle.gnu_bind.specs.Below.c_types.Declarations.{Facts, has_linkage, is_in, is_live, with_fault, with_use, with_begun, in_scope, visible, linked}
 use Rattle.gnu_bind.specs.Below.scope_bind.Below.name_chains.Frames.{State}
-use Rattle.gnu_bind.specs.Below.scope_bind.Named.{Declaration, Occurrence, Frame, Scope, Role, no_label, redeclared, is_plain_role}
+use Rattle.gnu_bind.specs.Below.scope_bind.Named.{Declaration, Occurrence, Frame, Scope, Role, no_label, redeclared, ordinary, is_plain_role}
 use Rattle.gnu_bind.specs.Below.scope_bind.Walk.{facts_at, facts_after}
 use Rattle.gnu_bind.specs.Below.scope_bind.Ordinary.{is_func, named_facts}
 use Rattle.gnu_bind.specs.Below.scope_bind.Below.name_chains.Members.{member_used}
@@ -24,12 +24,12 @@ use Rattle.gnu_bind.specs.declared.roles.GnuRole.TheVariants.{Standard, Name, Bl
 use Rattle.gnu_bind.specs.Words.{is_path_sign}
 use Rattle.gnu_bind.specs.Roles.{role_in}
 use Rattle.gnu_bind.specs.Senses.{sense_in, away}
-use Rattle.gnu_bind.specs.Names.{names_function, is_word, name_read, path_read}
+use Rattle.gnu_bind.specs.Names.{names_function, is_word, implied_entity, implied_function, is_implied, implied, denoting, name_read, path_read}
 use Rattle.gnu_bind.specs.BlockLabels.{block_labels, block_label, block_label_used, function_jump, with_block_label, block_label_at, function_label, labelled_by, labelled, jumped_by, jumped}
 use Rattle.gnu_bind.specs.Walk.{auto_name, auto_declared, with_auto, facts_by, read, begun, facts_ended, ended, walked}
 use Rattle.gnu_tree_laws.specs.GnuPlaces.{is_noted}
 use Rattle.tree_laws.proofs.Noted.{told_name}
-use Rattle.tree_laws.proofs.Holding.{name_noted, GoesOn, Holds, noted_still, fault_held, occurrence_held, declaration_held, begun_held, complete_held, looked_up_held}
+use Rattle.tree_laws.proofs.Holding.{name_noted, GoesOn, Holds, noted_still, fault_held, occurrence_held, declaration_held, silent_held, begun_held, complete_held, looked_up_held}
 use Rattle.tree_laws.proofs.HeldTags.{declared_held, member_used_held, label_held}
 use Rattle.tree_laws.proofs.HeldSteps.{named_held, jump_held, facts_in_held, facts_at_held, facts_after_held}
 
@@ -67,10 +67,27 @@ module _ (toks : List Token) (S : ℕ → Type 0) (R : List Occurrence → ℕ �
 
   -- ---- Names
 
+  implied_noted : (i : ℕ) (r : Option Declaration) (facts : Facts) → S i → IfSome r (λ d. R facts.occurrences i d.entity)
+      → R (name_noted i (implied_entity i r) false ∷ facts.occurrences) i (implied_entity i r)
+  implied_noted i None facts s r = law.itself facts.occurrences i false s
+  implied_noted i (Some d) facts s r = law.more (name_noted i d.entity false) facts.occurrences i d.entity r
+
+  implied_held : (scope : Scope) (i : ℕ) (facts : Facts) → S i → Holds S R facts → Holds S R (implied toks scope i facts)
+  implied_held scope i facts s h =
+      let link : Option Declaration = linked toks i facts in
+      let e : ℕ = implied_entity i link in
+      let r : R (name_noted i e false ∷ facts.occurrences) i e =
+      implied_noted i link facts s (looked_up_held toks S R law ordinary i (λ d. has_linkage d.linkage) facts s h) in
+      silent_held S R (implied_function scope i e) (with_use i e facts) (λ _. (s, r)) (occurrence_held S R law.more i e false facts r h)
+
+  denoting_held : (f : Frame) (i : ℕ) (facts : Facts) → S i → Holds S R facts → Holds S R (denoting toks f i facts)
+  denoting_held f i facts s h =
+      either_held (is_implied toks f i facts) (implied toks f.scope i facts) (named_facts toks f i facts) (implied_held f.scope i facts s h)
+      (named_held toks S R law (is_func toks f i) i facts s h)
+
   name_held : (s : Special) (f : Frame) (i : ℕ) (facts : Facts) → S i → Holds S R facts → Holds S R (name_read toks s f i facts)
   name_held s f i facts w h =
-      either_held (names_function toks f i || is_word toks s i facts) facts (named_facts toks f i facts) h
-      (named_held toks S R law (is_func toks f i) i facts w h)
+      either_held (names_function toks f i || is_word toks s i facts) facts (denoting toks f i facts) h (denoting_held f i facts w h)
 
   path_held : (f : Frame) (i : ℕ) (facts : Facts) → (not (is_path_sign (spelling_at toks i)) ≡ true → S i) → Holds S R facts → Holds S R (path_read toks f i facts)
   path_held f i facts w h = by (is_path_sign (spelling_at toks i)) w

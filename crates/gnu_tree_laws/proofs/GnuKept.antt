@@ -1,18 +1,18 @@
 -- Each declaration of GNU C that has linkage is one of an ordinary identifier, and those of one spelling are one entity.
-use Rattle.std.proofs.Common.{ℕ, ◌≡◌, Bool, true, false, ◌||◌, if◌then◌else◌, List, [], Option, None, Some, ◌⊎◌, inl, inr, refl, sym, subst}
+use Rattle.std.proofs.Common.{ℕ, ◌≡◌, Bool, true, false, ◌&&◌, ◌||◌, if◌then◌else◌, List, [], Option, None, Some, ◌⊎◌, inl, inr, refl, sym, subst, ◌∙◌}
 use Rattle.std.specs.Prelude.{is_some}
 use Rattle.std.specs.Str.{bytes_eq}
-use Rattle.std.proofs.lemmas.Bool.{false≢true}
+use Rattle.std.proofs.lemmas.Bool.{and_parts, false≢true}
 use Rattle.cs_base.specs.Token.{Token}
 use Rattle.c99_tree.specs.Tree.{Forest, none, token, node}
 use Rattle.c99_tree.specs.declared.production.Label.{Label}
 use Rattle.c99_tree.specs.declared.production.Production.{Production}
 use Rattle.c99_tree.specs.declared.production.Production.TheVariants.{AutoDecl}
 use Rattle.gnu_bind.specs.Below.c_types.Trees.{last_token}
-use Rattle.gnu_bind.specs.Below.c_types.Declarations.{Facts, is_in, with_fault, with_use, with_begun, with_declaration, spelling_at, visible, in_scope}
+use Rattle.gnu_bind.specs.Below.c_types.Declarations.{Facts, has_linkage, alike, is_named, is_in, with_fault, with_use, with_begun, with_declaration, spelling_at, visible, in_scope, linked}
 use Rattle.gnu_bind.specs.Below.scope_bind.Below.name_chains.Frames.{State, state}
 use Rattle.gnu_bind.specs.Below.scope_bind.Below.name_chains.Members.{member_used}
-use Rattle.gnu_bind.specs.Below.scope_bind.Named.{Declaration, Frame, Scope, Role, no_label, redeclared}
+use Rattle.gnu_bind.specs.Below.scope_bind.Named.{Declaration, Frame, Scope, Role, no_label, redeclared, ordinary}
 use Rattle.gnu_bind.specs.Below.scope_bind.declared.roles.Role.TheVariants.{Primary as APrimary, Member as AMember}
 use Rattle.gnu_bind.specs.Below.scope_bind.Ordinary.{named_facts}
 use Rattle.gnu_bind.specs.Below.scope_bind.Labels.{with_label, with_jump}
@@ -24,12 +24,13 @@ use Rattle.gnu_bind.specs.declared.roles.GnuRole.TheVariants.{Standard, Name, Bl
 use Rattle.gnu_bind.specs.Words.{is_path_sign}
 use Rattle.gnu_bind.specs.Roles.{role_in}
 use Rattle.gnu_bind.specs.Senses.{sense_in, away}
-use Rattle.gnu_bind.specs.Names.{names_function, is_word}
+use Rattle.gnu_bind.specs.Names.{names_function, is_word, implied_entity, implied_function, is_implied, implied, denoting}
 use Rattle.gnu_bind.specs.BlockLabels.{block_labels, block_label, with_block_label, block_label_at, function_label, labelled_by, jumped_by}
 use Rattle.gnu_bind.specs.Walk.{auto_name, auto_declared, facts_by, read, begun, facts_ended, ended, walked}
 use Rattle.tree_laws.specs.RenamedNames.{is_own_word}
-use Rattle.tree_laws.proofs.Renaming.{Good, Kept, occurrence, fault_back, fault_goes, occurrence_back, declaration_back, kept_occurrence, kept_declaration, unlinked_ordinary, joins_unlinked}
-use Rattle.tree_laws.proofs.RenamedNames.{declared_back, declared_kept}
+use Rattle.tree_laws.proofs.Lookups.{In, found_in, found_passes, none_passes}
+use Rattle.tree_laws.proofs.Renaming.{Good, Kept, IsLinked, occurrence, fault_back, fault_goes, occurrence_back, declaration_back, kept_occurrence, kept_declaration, kept_silent, unlinked_ordinary, joins_unlinked}
+use Rattle.tree_laws.proofs.RenamedNames.{relinked, declared_back, declared_kept}
 use Rattle.tree_laws.proofs.RenamedMembers.{with_label_back, with_label_kept}
 use Rattle.tree_laws.proofs.RenamedSteps.{entered_back, entered_kept, passed_back, passed_kept, left_back, left_kept}
 use Rattle.gnu_tree_laws.proofs.GnuHeld.{auto_or, other_ended}
@@ -53,6 +54,17 @@ module _ (toks : List Token) where
 
   name_back : (f : Frame) (i : ℕ) (facts : Facts) → Clean (named_facts toks f i facts) → Clean facts
   name_back f i facts h = passed_back toks toks same_words APrimary i (state facts f) h
+
+  implied_back : (scope : Scope) (i : ℕ) (facts : Facts) → Clean (implied toks scope i facts) → Clean facts
+  implied_back scope i facts h =
+      occurrence_back toks toks i (implied_entity i (linked toks i facts)) false facts (record { clean = h.clean; good = h.good; apart = h.apart })
+
+  denoting_back : (f : Frame) (i : ℕ) (facts : Facts) → Clean (denoting toks f i facts) → Clean facts
+  denoting_back f i facts = by (is_implied toks f i facts)
+    where
+      by : (c : Bool) → Clean (if c then implied toks f.scope i facts else named_facts toks f i facts) → Clean facts
+      by true h = implied_back f.scope i facts h
+      by false h = name_back f i facts h
 
   path_back : (f : Frame) (i : ℕ) (facts : Facts) → Clean (member_used toks f.found i facts) → Clean facts
   path_back f i facts h = passed_back toks toks same_words AMember i (state facts (record f { given = f.found })) h
@@ -83,7 +95,7 @@ module _ (toks : List Token) where
   read_back : (r : GnuRole) (s : Sense) (i : ℕ) (f : Frame) (facts : Facts) → Clean (facts_by toks r s i f facts) → Clean facts
   read_back (Standard r) s i f facts h = passed_back toks toks same_words r i (state facts f) h
   read_back Name s i f facts h =
-      either_back (names_function toks f i || is_word toks s.special i facts) facts (named_facts toks f i facts) (λ g. name_back f i facts g) h
+      either_back (names_function toks f i || is_word toks s.special i facts) facts (denoting toks f i facts) (λ g. denoting_back f i facts g) h
   read_back BlockLabel s i f facts h = block_label_back f.scope i facts h
   read_back ALabel s i f facts h = labelled_back (block_label_at toks s i facts) s f i facts h
   read_back Jump s i f facts h = jumped_back (block_label_at toks s i facts) s i facts h
@@ -151,11 +163,34 @@ module _ (toks : List Token) where
       kept_declaration toks (block_label scope i) before (fault_kept twice i facts k) (unlinked_ordinary (block_label scope i) refl)
       (joins_unlinked toks (block_label scope i) before refl)
 
+  -- the function is of the entity of each declaration of its spelling that has linkage
+  implied_joins : (i : ℕ) (facts : Facts) → Kept toks facts → (r : Option Declaration) → linked toks i facts ≡ r → (e : Declaration)
+      → In e facts.declared → IsLinked toks i e → implied_entity i r ≡ e.entity
+  implied_joins i facts k None found e within l =
+      absurd (false≢true (sym (none_passes (λ d. is_named toks ordinary i d && has_linkage d.linkage) facts.declared e found within) ∙ l))
+  implied_joins i facts k (Some d) found e within l =
+      let passes : Declaration → Bool = λ d. is_named toks ordinary i d && has_linkage d.linkage in
+      k.one i d e (found_in passes facts.declared d found) within (found_passes passes facts.declared d found) l
+
+  implied_kept : (scope : Scope) (i : ℕ) (facts : Facts) → Kept toks facts → Kept toks (implied toks scope i facts)
+  implied_kept scope i facts k =
+      let link : Option Declaration = linked toks i facts in
+      let e : ℕ = implied_entity i link in
+      kept_silent toks (implied_function scope i e) (with_use i e facts) (kept_occurrence toks i e false facts k) (λ _. inr (inl refl)) (λ _. refl)
+      (λ j d within l m. implied_joins i facts k link refl d within (relinked toks j i d ((and_parts (alike toks j i) true l).0) m))
+
+  denoting_kept : (f : Frame) (i : ℕ) (facts : Facts) → Kept toks facts → Clean (denoting toks f i facts) → Kept toks (denoting toks f i facts)
+  denoting_kept f i facts k = by (is_implied toks f i facts)
+    where
+      by : (c : Bool) → Clean (if c then implied toks f.scope i facts else named_facts toks f i facts)
+          → Kept toks (if c then implied toks f.scope i facts else named_facts toks f i facts)
+      by true h = implied_kept f.scope i facts k
+      by false h = passed_kept toks toks same_words APrimary i (state facts f) k h
+
   read_kept : (r : GnuRole) (s : Sense) (i : ℕ) (f : Frame) (facts : Facts) → Kept toks facts → Clean (facts_by toks r s i f facts) → Kept toks (facts_by toks r s i f facts)
   read_kept (Standard r) s i f facts k h = passed_kept toks toks same_words r i (state facts f) k h
   read_kept Name s i f facts k h =
-      either_kept (names_function toks f i || is_word toks s.special i facts) facts (named_facts toks f i facts) k
-      (λ g. passed_kept toks toks same_words APrimary i (state facts f) k g) h
+      either_kept (names_function toks f i || is_word toks s.special i facts) facts (denoting toks f i facts) k (λ g. denoting_kept f i facts k g) h
   read_kept BlockLabel s i f facts k h = block_label_kept f.scope i facts k
   read_kept ALabel s i f facts k h = labelled_kept (block_label_at toks s i facts) s f i facts k h
   read_kept Jump s i f facts k h = jumped_kept (block_label_at toks s i facts) s i facts k h

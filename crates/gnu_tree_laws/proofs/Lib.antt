@@ -4,4 +4,5 @@ mod GnuCounted
 pub mod GnuSpelled
 pub mod GnuOnce
 mod GnuKept
+mod GnuStandard
 pub mod GnuLinked

@@ -1,5 +1,5 @@
 -- The steps of a unit once more, in another unit.
-use Rattle.std.proofs.Common.{◌≡◌, ℕ, zero, suc, ◌+◌, ◌-◌, ◌≤◌, nat_lt, nat_le, Bool, true, false, not, ◌&&◌, ◌||◌, cond, is_some, List, [], ◌∷◌, ◌++◌, length, map, drop, Option, None, Some, Result, Ok, Err, refl, sym, ◌∙◌, ap, subst, inl, inr, arith, ltb-true, ltb-false}
+use Rattle.std.proofs.Common.{◌≡◌, ℕ, zero, suc, ◌+◌, ◌-◌, ◌≤◌, nat_lt, Bool, true, false, not, ◌&&◌, ◌||◌, cond, is_some, List, [], ◌∷◌, ◌++◌, length, drop, Option, None, Some, Result, Ok, Err, refl, sym, ◌∙◌, ap, subst, inl, inr, arith, ltb-true}
 use Rattle.std.specs.List.{list_any}
 use Rattle.std.proofs.lemmas.Bool.{cases_Bool}
 use Rattle.cs_base.specs.declared.causes.Cause.TheVariants.{BadDirective, DefinedFromMacro}
@@ -8,7 +8,7 @@ use Rattle.cs_base.specs.declared.positions.Pos.{Pos}
 use Rattle.cs_base.specs.declared.ws_units.Setting.{Setting}
 use Rattle.cs_base.specs.Token.{Token}
 use Rattle.cs_base.specs.Paths.{is_absolute}
-use Rattle.cs_base.specs.Units.{UnitValue, is_gnu}
+use Rattle.cs_base.specs.Units.{is_gnu}
 use Rattle.source_files.specs.Below.line_shape.Signs.{is_name}
 use Rattle.source_files.specs.Below.line_shape.declared.items.ItemKind.{ItemKind}
 use Rattle.source_files.specs.Below.line_shape.declared.items.ItemKind.TheVariants as kind
@@ -36,10 +36,10 @@ use Rattle.unit_steps.specs.Directives.{defined_as, define_of, undefined_as, und
 use Rattle.unit_steps.specs.IncludeNames.{header_or, computed_header, header_named, written_header, next_named}
 use Rattle.unit_steps.specs.Questions.{Question, Unasked, Looks, Lacks, asks_next, questions_from, found_as}
 use Rattle.include_tree.specs.OpeningStep.{with_opened, open_file}
-use Rattle.include_tree.specs.Asking.{there, there_found, is_there, look_for, look, looked, gnu_known, gnu_asked, gnu_answered, gnu_holds, asks_files, opens_in, goes_in}
+use Rattle.include_tree.specs.Asking.{there, there_found, is_there, look_for, look, looked, gnu_known, gnu_asked, gnu_holds, asks_files, opens_in, goes_in}
 use Rattle.include_tree.specs.Including.{open_searched, open_found, open_header, Process, Inner, left_to, entered, unless_once, included, include_of, include_next_of}
-use Rattle.include_tree.specs.Sections.{Group, Processed, Awaited, Over, Skipped, Section, section, is_alive, are_processed, group_if, group_after, group_of_else, Turn, Opens, GoesOn, GoesLast, Ends, Stays, turn_of}
-use Rattle.include_tree.specs.Walk.{ItemText, items_in, processed, processed_line, Stepped, stepped, reaching, go_on, opens, goes_on, reaching_alive, in_section, turned, is_foreign, foreign_line, item_step, file_end, walk, file_items}
+use Rattle.include_tree.specs.Sections.{Group, Processed, Awaited, Over, Skipped, Section, section, is_alive, are_processed, group_if, group_of_else, Turn, Opens, GoesOn, GoesLast, Ends, Stays, turn_of}
+use Rattle.include_tree.specs.Walk.{ItemText, items_in, processed, Stepped, stepped, reaching, go_on, opens, goes_on, reaching_alive, in_section, turned, is_foreign, foreign_line, item_step, file_end, walk, file_items}
 use Rattle.include_tree.specs.Laws.{IfDone, Leads}
 use Rattle.include_tree.specs.Again.{unit_like, ItemsGiveTheSameAgain}
 use Rattle.include_tree.proofs.SearchLemmas.{search_wide, open_file_leads}

@@ -1,6 +1,5 @@
 -- Searching and opening files once more, where all that was asked for is known.
-use Rattle.std.proofs.Common.{◌≡◌, ℕ, ◌+◌, nat_le, cond, not, is_some, Bool, true, false, List, [], ◌∷◌, Option, None, Some, Result, Ok, Err, refl, sym, ◌∙◌, ap, subst, inl, inr}
-use Rattle.std.specs.List.{position_or_len}
+use Rattle.std.proofs.Common.{◌≡◌, ℕ, ◌+◌, nat_le, cond, is_some, Bool, true, false, List, [], ◌∷◌, Option, None, Some, Result, Ok, Err, refl, sym, ◌∙◌, ap, subst, inl, inr}
 use Rattle.std.specs.Str.{bytes_eq}
 use Rattle.std.proofs.lemmas.Bool.{cases_Bool}
 use Rattle.std.proofs.lemmas.Option.{same_Some}
@@ -9,9 +8,9 @@ use Rattle.cs_base.specs.declared.positions.Place.{Place}
 use Rattle.cs_base.proofs.FileMapLemmas.{bytes_eq-same}
 use Rattle.source_files.specs.Below.lexer.FileText.{TextValue, LexFault, FileTooLarge, OpenComment}
 use Rattle.source_files.specs.Limits.{Limits}
-use Rattle.source_files.specs.Files.{Source, Found, Lines, Absent, Unopened, Opened, Made, Entry, Table, SourceFile, source_file, found_at, found_in, numbered, opened, asked, number_of, files_opened}
+use Rattle.source_files.specs.Files.{Source, Found, Lines, Absent, Unopened, Opened, Made, Table, SourceFile, source_file, found_at, found_in, numbered, opened, asked, number_of, files_opened}
 use Rattle.source_files.specs.Faults.{Fault, fault}
-use Rattle.source_files.specs.Opening.{Reader, Opening, file_read, readable, first_opened, are_too_many, opened_as, opening}
+use Rattle.source_files.specs.Opening.{Reader, Opening, file_read, readable, are_too_many, opened_as, opening}
 use Rattle.source_files.specs.Search.{Searched, searched, search, search_on}
 use Rattle.source_files.specs.Tables.{Becomes, IsGrown}
 use Rattle.source_files.proofs.SourcesLemmas.{found-opened}
@@ -68,7 +67,7 @@ asked_found : (source : Source) (path : List ℕ) (t : Table) (o : Option Found)
 asked_found source path t None h = (found_in (source path), found_last path (found_in (source path)) t h)
 asked_found source path t (Some f) h = (f, h)
 
-known_asked : (source : Source) (path : List ℕ) (later : Table) (f : Found) → found_at path later ≡ Some f → asked source path later ≡ later
+pub known_asked : (source : Source) (path : List ℕ) (later : Table) (f : Found) → found_at path later ≡ Some f → asked source path later ≡ later
 known_asked source path later f h = rw h refl
 
 -- a path that was asked for is asked for once

@@ -1,5 +1,5 @@
 -- The table with which a unit begins: that of the unit before, or that with one pseudo file more.
-use Rattle.std.proofs.Common.{◌≡◌, ℕ, List, Option, None, Some}
+use Rattle.std.proofs.Common.{ℕ, List, Option, None, Some}
 use Rattle.cs_base.specs.Units.{UnitValue, defines_of}
 use Rattle.source_files.specs.Files.{Made, Table, defines_path, made_path, numbered}
 use Rattle.include_tree.specs.Unit.{table_or_more, with_defines}

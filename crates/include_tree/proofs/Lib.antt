@@ -21,6 +21,12 @@ pub mod SharedLemmas
 pub mod AgainTables
 pub mod AgainLemmas
 pub mod UnitAgain
+pub mod LeadLemmas
+pub mod FrontLemmas
+pub mod MainLemmas
+pub mod AlongLemmas
+pub mod LeadWalks
+pub mod RestLemmas
 -- Words of the crates below, passed on.
 pub mod Below
 pub mod EditedLemmas

@@ -1,16 +1,16 @@
 -- Units whose pseudo files have one text begin with one.
-use Rattle.std.proofs.Common.{◌≡◌, ℕ, true, false, cond, List, [], ◌∷◌, Option, None, Some, Ok, Err, refl, sym, ◌∙◌, ap, subst, inl, inr}
+use Rattle.std.proofs.Common.{◌≡◌, ℕ, List, [], ◌∷◌, Option, None, Some, Ok, Err, refl, sym, ◌∙◌, ap, subst, inl, inr}
 use Rattle.std.proofs.lemmas.Bool.{cases_Bool}
 use Rattle.cs_base.specs.Token.{Token}
 use Rattle.cs_base.specs.Units.{UnitValue, defines_of}
 use Rattle.cs_base.proofs.FileMapLemmas.{bytes_eq-same}
 use Rattle.source_files.specs.Limits.{Limits}
-use Rattle.source_files.specs.Files.{Source, Found, Made, Entry, Table, Carried, is_made, made_path, defines_path, numbered}
+use Rattle.source_files.specs.Files.{Source, Found, Made, Table, Carried, is_made, made_path, defines_path, numbered}
 use Rattle.source_files.specs.Tables.{Becomes, IsGrown}
 use Rattle.source_files.specs.Opening.{Reader}
 use Rattle.source_files.proofs.TableLemmas.{grown_trans}
 use Rattle.unit_steps.specs.State.{Context, context, State, Outcome}
-use Rattle.include_tree.specs.Unit.{path_or_own, pseudo_path, table_or_more, with_defines, first_state, both_files, unit_outcome}
+use Rattle.include_tree.specs.Unit.{path_or_own, pseudo_path, table_or_more, with_defines, first_state, unit_outcome}
 use Rattle.include_tree.specs.Laws.{IfDone}
 use Rattle.include_tree.proofs.StepLemmas.{PutsOut}
 use Rattle.include_tree.proofs.WalkLemmas.{both_files_lead}

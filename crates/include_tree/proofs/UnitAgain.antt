@@ -1,5 +1,5 @@
 -- A unit once more, over a table that has grown.
-use Rattle.std.proofs.Common.{◌≡◌, ℕ, ◌+◌, ◌-◌, ◌≤◌, List, [], ◌++◌, length, Option, None, Some, Result, Ok, Err, refl, sym, ◌∙◌, ap, subst, arith}
+use Rattle.std.proofs.Common.{◌≡◌, ℕ, ◌+◌, ◌-◌, ◌≤◌, List, [], ◌++◌, length, Option, Some, Result, Ok, Err, sym, ◌∙◌, ap, subst, arith}
 use Rattle.cs_base.specs.Token.{Token}
 use Rattle.cs_base.specs.Units.{UnitValue, defines_of}
 use Rattle.cs_base.specs.declared.ws_units.Setting.{Setting}
@@ -9,20 +9,20 @@ use Rattle.source_files.specs.Files.{Source, Table, Carried, carried, asked, mad
 use Rattle.source_files.specs.Faults.{Fault, first_place}
 use Rattle.source_files.specs.Tables.{IsGrown}
 use Rattle.source_files.proofs.TableLemmas.{grown_trans, widens_asked}
-use Rattle.unit_steps.specs.State.{Context, context, State, Did, did, Outcome, only, onward}
+use Rattle.unit_steps.specs.State.{Context, context, State, Outcome, only, onward}
 use Rattle.unit_steps.specs.Expanding.{most_toks}
 use Rattle.unit_steps.specs.Texts.{unit_text}
 use Rattle.include_tree.specs.OpeningStep.{open_file}
 use Rattle.include_tree.specs.Walk.{file_items}
-use Rattle.include_tree.specs.Unit.{path_or_own, pseudo_path, table_or_more, with_defines, first_state, outer_file, main_file, both_files, unit_outcome}
+use Rattle.include_tree.specs.Unit.{path_or_own, pseudo_path, table_or_more, first_state, outer_file, main_file, both_files, unit_outcome}
 use Rattle.include_tree.specs.Preprocessed.{Preprocessed, with_text, preprocessed_by, preprocessed}
 use Rattle.include_tree.specs.Laws.{IfDone}
-use Rattle.include_tree.specs.Again.{unit_like, UnitGivesTheSameAgain}
+use Rattle.include_tree.specs.Again.{UnitGivesTheSameAgain}
 use Rattle.include_tree.proofs.StepLemmas.{PutsOut}
 use Rattle.include_tree.proofs.WalkLemmas.{both_files_lead}
 use Rattle.include_tree.proofs.SharedLemmas.{made_grown, begun}
 use Rattle.include_tree.proofs.AgainTables.{asked_again}
-use Rattle.include_tree.proofs.AgainLemmas.{Again, moved, other, same, onward_again, open_again, files_again}
+use Rattle.include_tree.proofs.AgainLemmas.{Again, other, same, onward_again, open_again, files_again}
 
 module _ (ctx : Context) (source : Source) (project path : List ℕ) (settings : List Setting) (includes : List (List ℕ)) (earlier : ℕ) (later : Table) where
   abbrev next : Context

@@ -25,7 +25,7 @@ use Rattle.include_tree.proofs.WalkingLemmas.{fault_on}
 
 -- ---- one item behind another
 
-get-some : {X : Type 0} (xs : List X) (k : ℕ) → k < length xs → (x : X) × (slice_get xs k ≡ Some x)
+pub get-some : {X : Type 0} (xs : List X) (k : ℕ) → k < length xs → (x : X) × (slice_get xs k ≡ Some x)
 get-some [] k h = absurd (omega (arith, h))
 get-some (x ∷ xs) zero h = (x, refl)
 get-some (x ∷ xs) (suc k) h = get-some xs k (omega (arith, h))

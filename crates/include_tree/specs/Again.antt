@@ -5,7 +5,7 @@ use Rattle.cs_base.specs.Units.{UnitValue, unit}
 use Rattle.cs_base.specs.declared.ws_units.Setting.{Setting}
 use Rattle.source_files.specs.Files.{Source, Table, SourceFile, Carried, carried}
 use Rattle.source_files.specs.Tables.{IsGrown}
-use Rattle.unit_steps.specs.State.{Context, context, State, Did, did, Outcome}
+use Rattle.unit_steps.specs.State.{Context, context, State, Did, did}
 use Rattle.unit_steps.specs.Expanding.{most_toks}
 use Rattle.include_tree.specs.Walk.{file_items}
 use Rattle.include_tree.specs.Preprocessed.{Preprocessed, with_text, preprocessed}

@@ -14,5 +14,7 @@ pub mod GivenFiles
 pub mod ItemTexts
 pub mod OpenSections
 pub mod Walking
+pub mod Leads
+pub mod Fronts
 -- Words of the crates below, passed on.
 pub mod Below

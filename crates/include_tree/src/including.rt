@@ -29,9 +29,9 @@ use unit_steps::{Progress, SourceText};
 
 // What an include line asks for: the paths, and where a fault of opening one of them stands.
 #[derive(Drop)]
-struct Asked {
-    paths: Vec<Text>,
-    place: Place,
+pub struct Asked {
+    pub paths: Vec<Text>,
+    pub place: Place,
 }
 
 // What an include line of this file asks for, whose `#` is there.
@@ -61,7 +61,7 @@ fn asked_by(
 }
 
 // What an include line of the kept file with this number asks for, whose `#` is there.
-fn asked_in(
+pub(crate) fn asked_in(
     alloc: Global,
     cache: &Cache,
     unit: &Unit,

@@ -10,22 +10,28 @@
 //!
 //! `preprocess` gives that text, which a `UnitText` of `unit_steps` keeps, or the first fault; a failed read
 //! and want of memory are refusals of their own. A `Cache` of `source_files` keeps files once read, from unit
-//! to unit. The laws `units_are_counted`, `depth_is_a_limit` and `pseudo_files_are_of_their_units` hold of all
-//! units. Read `specs/Files.antt` of `source_files`, `specs/Notes.antt` of `unit_steps`, then `specs/Walk.antt`,
-//! `specs/Unit.antt` and `specs/Laws.antt` here; of the program `unit_walk.rt` and `walking.rt`.
+//! to unit. `preprocess_on` gives the same, and puts in what units before began with alike: fronts, of which
+//! `specs/Fronts.antt` says what they keep. The laws `units_are_counted`, `depth_is_a_limit` and
+//! `pseudo_files_are_of_their_units` hold of all units. Read `specs/Files.antt` of `source_files`, `specs/Notes.antt`
+//! of `unit_steps`, then `specs/Walk.antt`, `specs/Unit.antt` and `specs/Laws.antt` here; of the program
+//! `unit_walk.rt`, `main_walk.rt` and `walking.rt`.
 #![tactic(auto)]
 
 mod asking;
+mod fronts;
 mod including;
 mod item_steps;
 mod item_toks;
 mod laws;
+mod leads;
+mod main_walk;
 mod section_lines;
 mod sections;
 mod settings_text;
 mod unit_walk;
 mod walking;
 
+pub use fronts::Fronts;
 pub use laws::{
     depth_is_a_limit, equal_settings_share, items_give_the_same_again,
     pseudo_files_are_of_their_units, tables_only_grow, unit_gives_the_same_again,
@@ -33,4 +39,4 @@ pub use laws::{
 };
 pub use source_files::{Cache, GnuLine, Item, ItemKind, KeptFile, PreFault, begins_header};
 pub use unit_steps::{Event, EventKind, Reached, UnitText};
-pub use unit_walk::preprocess;
+pub use unit_walk::{preprocess, preprocess_on};

@@ -1,23 +1,26 @@
 // A unit, preprocessed (5.1.1.2 phase 4).
-ghost use Rattle.std.specs.Prelude.{◌≡◌, None, true, false, IfOk, IfErr, IsSome, OnErr};
+ghost use Rattle.std.specs.Prelude.{◌≡◌, None, true, false, IfOk, IfErr, IsSome, OnErr, OnOk};
 ghost use Rattle.std.specs.Str.{bytes_eq};
 ghost use Rattle.cs_base.specs.Answer.{Gives};
 ghost use Rattle.source_files.specs.Below.lexer.FileText.{file_text};
 ghost use Rattle.cs_base.specs.Outside.{ReadsOnly};
 ghost use Rattle.source_files.specs.Limits.{the_limits};
-ghost use Rattle.source_files.specs.Files.{Source, Made, defines_path, found_at, lines_path, numbered, asked};
+ghost use Rattle.source_files.specs.Files.{Source, Table, Made, defines_path, found_at, lines_path, numbered, asked};
 ghost use Rattle.source_files.specs.Faults.{first_place};
 ghost use Rattle.source_files.specs.Search.{can_be_asked};
 ghost use Rattle.source_files.specs.Opening.{opening};
 ghost use Rattle.include_tree.specs.Unit.{pseudo_path, with_defines, outer_file, main_file};
 ghost use Rattle.source_files.specs.Tables.{AreFound, IsGrown, StaysHeld};
 ghost use Rattle.include_tree.specs.Preprocessed.{preprocessed, with_text};
-ghost use Rattle.unit_steps.specs.Keeping.{put_after};
+ghost use Rattle.include_tree.specs.Fronts.{start_state, HasBegun, AreFronts};
+ghost use Rattle.unit_steps.specs.Keeping.{no_text, put_after};
 ghost use Rattle.unit_steps.specs.Moments.{state_in, GoesOn, IsReady};
 ghost use Rattle.source_files.specs.Sources.{source_at, unit_most, GivesOpening};
 ghost use Rattle.include_tree.specs.GivenFiles.{unit_context};
 ghost use Rattle.source_files.specs.Answers.{fault_of, IsNoReadFault, reads_of, ReadsOn, Keeps};
 
+use crate::fronts::Fronts;
+use crate::main_walk::walk_own;
 use crate::settings_text::{defines_path, defines_text};
 use crate::walking::walk_file;
 use cs_base::{Files, Unit};
@@ -75,7 +78,7 @@ fn make_defines(alloc: Global, cache: &mut Cache, unit: &Unit, number: u32) -> R
     }
 }
 
-// The items of the pseudo file of the unit.
+// The items of the pseudo file of the unit, whose number is told.
 fn walk_defines<F: Files>(
     alloc: Global,
     cache: &mut Cache,
@@ -83,17 +86,26 @@ fn walk_defines<F: Files>(
     p: &mut Progress,
     unit: &Unit,
     number: u32,
-) -> Result<(), PreFault>
+) -> Result<u32, PreFault>
     requires ready { IsReady p.old (unit_most cache.old.toks) }
+    requires start { (table : Table) → state_in table p.old ≡ record (start_state unit.now.standard) { table = table } }
+    requires nothing { p.old.text ≡ no_text }
     ensures answer { found_at (defines_path number) cache.old.table ≡ None → (source : Source) → AreFound source cache.new.table →
         Gives (λ _. (state_in cache.new.table p.new, p.new.text)) fault_of result (put_after p.old.text (outer_file (unit_context source unit.now cache.old.toks) (pseudo_path number unit.now cache.old.table)
         (state_in (with_defines number unit.now cache.old.table) p.old))) }
+    ensures begun { IfOk result (λ n. p.new.behind ≡ None → HasBegun unit.now cache.new.table n (state_in cache.new.table p.new) p.new.text) }
     ensures goes_on { GoesOn p.old p.new result }
     ensures reads { ReadsOn (F.told files.old).held cache.old cache.new }
     ensures faults { ReadsOnly (F.told files.old) (F.told files.new) (reads_of result) }
 {
     match make_defines(alloc, cache, unit, number) {
-        Ok(defines) => walk_file(alloc, cache, files, p, unit, defines, MOST_INSIDE),
+        Ok(defines) => match walk_file(alloc, cache, files, p, unit, defines, MOST_INSIDE) {
+            Ok(()) => {
+                let _numbers = cache.numbers();
+                Ok(defines)
+            }
+            Err(fault) => Err(fault),
+        },
         Err(fault) => Err(fault),
     }
 }
@@ -121,23 +133,28 @@ fn open_main<F: Files>(
     }
 }
 
-// The items of the unit's own file.
+// The items of the unit's own file, whose pseudo file has the number `pseudo`.
 fn walk_main<F: Files>(
     alloc: Global,
     cache: &mut Cache,
     files: &mut F,
+    fronts: &mut Fronts,
     p: &mut Progress,
     unit: &Unit,
+    pseudo: u32,
 ) -> Result<(), PreFault>
     requires ready { IsReady p.old (unit_most cache.old.toks) }
+    requires begun { p.old.behind ≡ None → HasBegun unit.now cache.old.table pseudo (state_in cache.old.table p.old) p.old.text }
+    requires fronts { AreFronts cache.old.table fronts.old.all.items }
     ensures answer { (source : Source) → AreFound source cache.new.table → Gives (λ _. (state_in cache.new.table p.new, p.new.text)) fault_of result
         (put_after p.old.text (main_file (unit_context source unit.now cache.old.toks) unit.now.path (state_in cache.old.table p.old))) }
+    ensures fronts { OnOk result (AreFronts cache.new.table fronts.new.all.items) }
     ensures goes_on { GoesOn p.old p.new result }
     ensures reads { ReadsOn (F.told files.old).held cache.old cache.new }
     ensures faults { ReadsOnly (F.told files.old) (F.told files.new) (reads_of result) }
 {
     match open_main(alloc, cache, files, unit.path().bytes()) {
-        Ok(main) => walk_file(alloc, cache, files, p, unit, main, MOST_INSIDE),
+        Ok(main) => walk_own(alloc, cache, files, fronts, p, unit, pseudo, main),
         Err(fault) => Err(fault),
     }
 }
@@ -174,15 +191,41 @@ pub fn preprocess<F: Files>(
         Gives (with_text cache.new) fault_of result (preprocessed source number unit.now cache.old) }
     ensures faults { ReadsOnly (F.told files.old) (F.told files.new) (reads_of result) }
 {
+    let mut fronts = Fronts::new(alloc);
+    preprocess_on(alloc, cache, files, &mut fronts, unit, number)
+}
+
+/// The same, where the units before left fronts, which are of what is kept: what the unit begins with as one of them says is
+/// put in, and a front more may be kept. Behind a refusal nothing is said of them.
+pub fn preprocess_on<F: Files>(
+    alloc: Global,
+    cache: &mut Cache,
+    files: &mut F,
+    fronts: &mut Fronts,
+    unit: &Unit,
+    number: u32,
+) -> Result<UnitText, PreFault>
+    requires fronts { AreFronts cache.old.table fronts.old.all.items }
+    ensures fronts { OnOk result (AreFronts cache.new.table fronts.new.all.items) }
+    // What is kept stays what the files hold, where that is told.
+    ensures found { StaysHeld (F.told files.old).held cache.old.table cache.new.table }
+    // The files that were read are kept, also after a refusal, and then no tokens are counted.
+    ensures grown { IsGrown cache.old.table cache.new.table }
+    ensures counted { OnErr result (cache.new.toks ≡ cache.old.toks) }
+    // Where the pseudo file of the unit was not met yet: over every source that holds what is then kept.
+    ensures answer { found_at (defines_path number) cache.old.table ≡ None → (source : Source) → AreFound source cache.new.table →
+        Gives (with_text cache.new) fault_of result (preprocessed source number unit.now cache.old) }
+    ensures faults { ReadsOnly (F.told files.old) (F.told files.new) (reads_of result) }
+{
     let mut p = match Progress::begin(alloc, unit.standard().is_gnu(), cache.most()) {
         Ok(p) => p,
         Err(_) => return Err(PreFault::Memory),
     };
-    match walk_defines(alloc, cache, files, &mut p, unit, number) {
-        Ok(()) => (),
+    let pseudo = match walk_defines(alloc, cache, files, &mut p, unit, number) {
+        Ok(pseudo) => pseudo,
         Err(fault) => return Err(fault),
-    }
-    match walk_main(alloc, cache, files, &mut p, unit) {
+    };
+    match walk_main(alloc, cache, files, fronts, &mut p, unit, pseudo) {
         Ok(()) => (),
         Err(fault) => return Err(fault),
     }

@@ -48,7 +48,7 @@ fn fault_in(alloc: Global, cache: &Cache, number: u32, at: Pos, cause: Cause) ->
 }
 
 // How many items it has. More than 2^32, which no file has, are answered by `Memory`.
-fn item_count(cache: &Cache, number: u32) -> Result<u32, Memory>
+pub(crate) fn item_count(cache: &Cache, number: u32) -> Result<u32, Memory>
     requires { IsSome (source_at cache.now.table number) }
     ensures { IfOk result (λ n. IfSome (source_at cache.now.table number) (λ file. n ≡ length (items_in file))) }
 {
@@ -60,7 +60,12 @@ fn item_count(cache: &Cache, number: u32) -> Result<u32, Memory>
 }
 
 // The end of it: no section may be open.
-fn file_end(alloc: Global, cache: &Cache, number: u32, sections: &Sections) -> Result<(), PreFault>
+pub(crate) fn file_end(
+    alloc: Global,
+    cache: &Cache,
+    number: u32,
+    sections: &Sections,
+) -> Result<(), PreFault>
     requires { IsSome (source_at cache.now.table number) }
     ensures answer { IfSome (source_at cache.now.table number) (λ file. (s : State) (k : UnitTextValue) → Gives (λ _. (s, k)) fault_of result (put_after k (file_end file sections.now s))) }
     ensures no_read { IfErr result IsNoReadFault }
@@ -127,7 +132,7 @@ pub(crate) fn walk_file<F: Files>(
 
 #[cycle(walk)]
 // Its item number `k`, if there is one.
-fn walk_item<F: Files>(
+pub(crate) fn walk_item<F: Files>(
     alloc: Global,
     cache: &mut Cache,
     files: &mut F,

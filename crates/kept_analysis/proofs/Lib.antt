@@ -1,6 +1,7 @@
 -- What the proofs of this crate rest on.
 mod ByteLemmas
 mod StillLemmas
+mod TextLemmas
 mod EditLemmas
 mod FollowLemmas
 mod AdvanceLemmas

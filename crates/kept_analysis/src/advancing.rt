@@ -58,7 +58,7 @@ fn followed(
         units,
         cache,
         classes,
-    } = a.into_parts();
+    } = a.into_parts(alloc)?;
     let classes = resized(classes, class, len)?;
     let units = renamed_units(alloc, moves, units)?;
     let cache = edited_files(alloc, moves, cache)?;

@@ -7,6 +7,7 @@ ghost use Rattle.analysis.specs.Changed.{renamed_event, renamed_text, renamed_to
 ghost use Rattle.kept_analysis.specs.Following.{IsReadAsBefore};
 ghost use Rattle.offences.specs.Moves.{move_by, renaming_by};
 
+use crate::still_texts::text_stays;
 use analysis::{Event, UnitParts, UnitText};
 use cs_base::{Link, Memory, Pos, Tok};
 use offences::{Moves, renamed_links, renamed_tok, renamed_toks};
@@ -28,10 +29,14 @@ pub(crate) fn renamed_units(
     Ok(renamed)
 }
 
+#[tactic(auto, using(crate::proofs::TextLemmas::unit_same))]
 fn renamed_unit(alloc: Global, moves: &Moves, unit: UnitParts) -> Result<UnitParts, Memory>
     requires { IsReadAsBefore (renaming_by moves.now) unit }
     ensures { IfOk result (λ u. u ≡ renamed_unit_analysis (renaming_by moves.now) unit) }
 {
+    if text_stays(moves, unit.text()) {
+        return Ok(unit);
+    }
     let text = renamed_text(alloc, moves, unit.text())?;
     Ok(unit.with_text(text))
 }

@@ -5,7 +5,7 @@ ghost use Rattle.analysis.specs.Analysis.{analysis_of};
 ghost use Rattle.analysis.specs.Below.source_files.Files.{Source};
 ghost use Rattle.analysis.specs.Naming.{Names};
 
-use analysis::{Analysis, Event, UnitText, analyse};
+use analysis::{Analysis, Event, UnitText, analyse_within};
 use cs_base::{Link, Part, Pos, Tok};
 use kept_analysis::advance;
 use rename_plan::plan_rename;
@@ -119,7 +119,7 @@ fn analysed(alloc: Global, ws: &str, files: &str) -> Result<Analysis, Fail>
         return Err(AllocError)?;
     };
     let mut files = row_tools::held(alloc, files)?;
-    match analyse(alloc, &ws, &mut files) {
+    match analyse_within(alloc, &ws, &mut files, 0) {
         Ok(analysis) => Ok(analysis),
         Err(_) => Err(AllocError)?,
     }
@@ -226,7 +226,10 @@ fn show_files(out: &mut Vec<u8>, a: &Analysis) -> Result<(), AllocError> {
 
 fn show_units(out: &mut Vec<u8>, alloc: Global, a: &Analysis) -> Result<(), AllocError> {
     for unit in 0..a.units() {
-        show_unit(out, alloc, a.text(unit + 1))?;
+        let Ok(one) = a.unit(alloc, unit + 1) else {
+            return Err(AllocError);
+        };
+        show_unit(out, alloc, one.text())?;
     }
     Ok(())
 }

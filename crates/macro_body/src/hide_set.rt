@@ -8,7 +8,9 @@ ghost use Rattle.cs_base.specs.Token.{Token};
 ghost use Rattle.line_shape.specs.MacroLine.{spellings};
 ghost use Rattle.macro_body.specs.Hides.{hides_name, in_both, lacking, with_names};
 
-use crate::name_parts::{NamePart, are_alike, are_alike_parts, is_in_parts, push_parts, with_part};
+use crate::name_parts::{
+    NamePart, are_alike, are_alike_parts, have_part, is_in_parts, push_parts, with_part,
+};
 use crate::shared_tokens::{all_shared, push_shared, shared};
 use cs_base::{Memory, Tok};
 use std::alloc::Global;
@@ -132,7 +134,8 @@ impl HideSet {
             return more.copy(self.alloc);
         }
         let mut names = all_shared(self.alloc, names_in(&self.last))?;
-        push_lacking(&mut names, &more.listed(self.alloc)?, self)?;
+        push_lacking_parts(&mut names, parts_in(&more.full), self)?;
+        push_lacking(&mut names, names_in(&more.last), self)?;
         HideSet::behind(self.alloc, &self.full, names)
     }
 
@@ -183,6 +186,18 @@ fn push_lacking(all: &mut Vec<Tok>, names: &[Tok], hides: &HideSet) -> Result<()
     for name in names {
         if !hides.contains(name.text()) {
             all.push(shared(name)?)?;
+        }
+    }
+    Ok(())
+}
+
+// The same of the tokens of parts. A part that the set has too is passed over.
+fn push_lacking_parts(all: &mut Vec<Tok>, parts: &[NamePart], hides: &HideSet) -> Result<(), Memory>
+    ensures { IfOk result (λ _. spellings all.new.items ≡ spellings all.old.items ++ lacking hides.now (flat_map (λ p. p) parts.now)) }
+{
+    for part in parts {
+        if !have_part(parts_in(&hides.full), part) {
+            push_lacking(all, part.toks(), hides)?;
         }
     }
     Ok(())

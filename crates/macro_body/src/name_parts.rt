@@ -1,10 +1,10 @@
 // Many names of a hide set together, found by the hash of their spellings.
-ghost use Rattle.std.specs.Prelude.{◌≡◌, ◌≤◌, ◌++◌, List, ℕ, length, IfOk};
+ghost use Rattle.std.specs.Prelude.{◌≡◌, ◌≤◌, ◌++◌, [], List, ℕ, length, map, IfOk};
 ghost use Rattle.std.specs.Bool.{OnTrue};
 ghost use Rattle.std.specs.List.{flat_map, list_any};
 ghost use Rattle.std.specs.Str.{bytes_eq};
 ghost use Rattle.line_shape.specs.MacroLine.{spellings};
-ghost use Rattle.macro_body.specs.Hides.{hides_name};
+ghost use Rattle.macro_body.specs.Hides.{hides_name, lacking};
 
 use crate::shared_tokens::push_shared;
 use cs_base::{Memory, Tok};
@@ -13,28 +13,32 @@ use std::collections::HashSet;
 use std::marker::Model;
 use std::rc::{Rc, RcSlice};
 
-/// Names in their order, as tokens that are spelled so, and their spellings to be found; its copies share both.
-/// Contracts see the list of the names.
+/// Names in their order, as tokens that are spelled so; their spellings to be found; and to be compared all at once,
+/// one behind the other, with the length of each. Its copies share all of it. Contracts see the list of the names.
 #[derive(Drop)]
 pub struct NamePart {
     names: RcSlice<Tok>,
     known: Rc<HashSet<Vec<u8>>>,
+    text: RcSlice<u8>,
+    lengths: RcSlice<usize>,
 }
 
 impl Model for NamePart {
-    ghost use Rattle.std.specs.Prelude.{◌≡◌, List, ℕ};
-    ghost use Rattle.std.specs.List.{list_any};
+    ghost use Rattle.std.specs.Prelude.{◌≡◌, List, ℕ, length, map};
+    ghost use Rattle.std.specs.List.{flat_map, list_any};
     ghost use Rattle.std.specs.Rc.{rc_slice_items};
     ghost use Rattle.std.specs.Str.{bytes_eq};
     ghost use Rattle.line_shape.specs.MacroLine.{spellings};
-    ghost use Rattle.macro_body.specs.Hides.{hides_name};
+    ghost use Rattle.macro_body.specs.Hides.{hides_name, lacking};
 
     ghost Value = { List (List ℕ) };
 
     ghost view = { λ p. spellings (rc_slice_items p.names) };
 
-    ghost invariant = { λ p. (name : List ℕ) → list_any (λ k. bytes_eq name k.items) p.known.value.keys
-        ≡ hides_name (spellings (rc_slice_items p.names)) name };
+    ghost invariant = { λ p. ((name : List ℕ) → list_any (λ k. bytes_eq name k.items) p.known.value.keys
+        ≡ hides_name (spellings (rc_slice_items p.names)) name)
+        × (rc_slice_items p.text ≡ flat_map (λ name. name) (spellings (rc_slice_items p.names)))
+        × (rc_slice_items p.lengths ≡ map length (spellings (rc_slice_items p.names))) };
 }
 
 impl NamePart {
@@ -42,9 +46,13 @@ impl NamePart {
         ensures { IfOk result (λ p. p ≡ spellings names.items) }
     {
         let known = Rc::new(alloc, known_among(alloc, &names)?)?;
+        let text = RcSlice::from_vec(text_of(alloc, &names)?)?;
+        let lengths = RcSlice::from_vec(lengths_of(alloc, &names)?)?;
         Ok(NamePart {
             names: RcSlice::from_vec(names)?,
             known,
+            text,
+            lengths,
         })
     }
 
@@ -65,6 +73,8 @@ impl NamePart {
         Ok(NamePart {
             names: self.names.clone()?,
             known: self.known.clone()?,
+            text: self.text.clone()?,
+            lengths: self.lengths.clone()?,
         })
     }
 
@@ -79,8 +89,31 @@ impl NamePart {
     fn is_alike(&self, other: &NamePart) -> bool
         ensures { OnTrue result (self.now ≡ other.now) }
     {
-        are_alike(self.toks(), other.toks())
+        self.lengths.as_slice() == other.lengths.as_slice()
+            && self.text.as_slice() == other.text.as_slice()
     }
+}
+
+// The spellings of tokens, one behind the other.
+fn text_of(alloc: Global, names: &[Tok]) -> Result<Vec<u8>, Memory>
+    ensures { IfOk result (λ text. text.items ≡ flat_map (λ name. name) (spellings names.now)) }
+{
+    let mut text = Vec::new(alloc);
+    for name in names {
+        text.extend_from_slice(name.text())?;
+    }
+    Ok(text)
+}
+
+// How long the spelling of each token is.
+fn lengths_of(alloc: Global, names: &[Tok]) -> Result<Vec<usize>, Memory>
+    ensures { IfOk result (λ lengths. lengths.items ≡ map length (spellings names.now)) }
+{
+    let mut lengths = Vec::with_capacity(alloc, names.len())?;
+    for name in names {
+        lengths.push(name.text().len())?;
+    }
+    Ok(lengths)
 }
 
 // The spellings of tokens.
@@ -137,6 +170,18 @@ pub fn is_in_parts(name: &[u8], parts: &[NamePart]) -> bool
     ensures { result ≡ list_any (λ p. hides_name p name.now) parts.now }
 {
     parts.iter().any(|part| part.contains(name))
+}
+
+/// Whether parts are known to have all names of another one.
+pub fn have_part(parts: &[NamePart], other: &NamePart) -> bool
+    ensures { OnTrue result (lacking (flat_map (λ p. p) parts.now) other.now ≡ []) }
+{
+    for part in parts {
+        if part.is_alike(other) {
+            return true;
+        }
+    }
+    false
 }
 
 /// Adds the tokens of parts.

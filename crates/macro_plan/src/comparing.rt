@@ -43,19 +43,24 @@ fn are_alike(toks: &[Tok], others: &[Tok]) -> bool
 }
 
 // Whether those of each unit are.
-fn units_are_alike(a: &Analysis, now: &Texts) -> bool
-    ensures { IsTrue result → map (λ (t : UnitTextValue). plains t.toks) now.now.texts
-        ≡ map (λ (u : UnitAnalysis). plains u.text.toks) a.now.value.units }
+fn units_are_alike(alloc: Global, a: &Analysis, now: &Texts) -> Result<bool, Memory>
+    ensures { IfOk result (λ alike. IsTrue alike → map (λ (t : UnitTextValue). plains t.toks) now.now.texts
+        ≡ map (λ (u : UnitAnalysis). plains u.text.toks) a.now.value.units) }
 {
     if now.units() != a.units() {
-        return false;
+        return Ok(false);
     }
     for unit in 0..a.units() {
-        if !are_alike(now.text(unit + 1).toks(), a.text(unit + 1).toks()) {
-            return false;
+        let one = a.unit(alloc, unit + 1)?;
+        let had = one.text();
+        let has = now.text(unit + 1);
+        let toks = has.toks();
+        let others = had.toks();
+        if !are_alike(toks, others) {
+            return Ok(false);
         }
     }
-    true
+    Ok(true)
 }
 
 // Whether a path has this number in the analysis as one that was not there, and no edit makes it.
@@ -101,13 +106,14 @@ fn stay_absent(a: &Analysis, edits: &Edits, now: &Texts) -> bool
 }
 
 // Whether what was asked for and not there stays so, and each unit has the tokens that it had.
-fn units_stay(a: &Analysis, edits: &Edits, now: &Texts) -> bool
-    ensures { IsTrue result → StayAlike a.now.value edits.now now.now }
+fn units_stay(alloc: Global, a: &Analysis, edits: &Edits, now: &Texts) -> Result<bool, Memory>
+    ensures { IfOk result (λ stay. IsTrue stay → StayAlike a.now.value edits.now now.now) }
 {
     if !stay_absent(a, edits, now) {
-        return false;
+        return Ok(false);
     }
-    units_are_alike(a, now)
+    let alike = units_are_alike(alloc, a, now)?;
+    Ok(alike)
 }
 
 /// Whether each unit of the edited files has the tokens that it had. Where a path is asked for that the analysis did not
@@ -119,7 +125,10 @@ pub(crate) fn tokens_stay(alloc: Global, a: &Analysis, edits: &Edits) -> Result<
     made_files_are_pseudo();
     let mut files = edited_sources(alloc, a, edits)?;
     match texts(alloc, a.workspace(), &mut files) {
-        Ok(now) => Ok(units_stay(a, edits, &now)),
+        Ok(now) => {
+            let stay = units_stay(alloc, a, edits, &now)?;
+            Ok(stay)
+        }
         Err(_) => Ok(false),
     }
 }

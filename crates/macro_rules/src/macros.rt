@@ -3,12 +3,11 @@ ghost use Rattle.std.specs.Prelude.{◌≡◌, IfOk};
 ghost use Rattle.offences.specs.Class.{class_over, IsClass};
 ghost use Rattle.macro_rules.specs.Class.{AreMacros};
 ghost use Rattle.macro_rules.specs.Counting.{class_heads};
-ghost use Rattle.macro_rules.specs.Macros.{torn_places};
 
 use crate::heads::{Head, heads};
 use crate::lines::loose_places;
 use crate::positions::Positions;
-use crate::replacements::{called_places, macro_places, number_places, replaced_places};
+use crate::replacements::{called_places, found_places};
 use analysis::Analysis;
 use cs_base::{Memory, Part};
 use offences::Class;
@@ -89,25 +88,17 @@ pub fn named_macros<'a>(
     ensures answer { IfOk result (λ m. m ≡ class_over a.now members.now) }
 {
     let class = Class::new(a, members, number);
-    let macros = macro_places(alloc, &class)?;
-    let calls = called_places(alloc, a, &macros)?;
-    let torn = torn_places(alloc, a)?;
-    let lines = number_places(alloc, a)?;
+    let loose = loose_places(alloc, a)?;
+    let found = found_places(alloc, a, &class, &loose)?;
+    let calls = called_places(alloc, a, &found.macros)?;
     Ok(Macros {
         class,
-        macros,
+        macros: found.macros,
         calls,
-        torn,
-        lines,
+        // A list that one of these replacements stands in could be torn.
+        torn: found.replaced,
+        lines: found.lines,
     })
-}
-
-// Where a replacement could tear a list.
-fn torn_places(alloc: Global, a: &Analysis) -> Result<Positions, Memory>
-    ensures { IfOk result (λ places. places ≡ torn_places a.now.value) }
-{
-    let loose = loose_places(alloc, a)?;
-    replaced_places(alloc, a, &loose)
 }
 
 /// The beginnings of their definitions, in the order of files: none where the class names no macro.

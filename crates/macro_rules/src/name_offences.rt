@@ -6,7 +6,6 @@ ghost use Rattle.list_cuts.specs.Cuts.{numbers};
 ghost use Rattle.offences.specs.First.{offence, standing};
 ghost use Rattle.offences.specs.Tokens.{first_place};
 ghost use Rattle.macro_rules.specs.FileOffences.{at_token, directive_token, directive_offences, bare_name, bare_offences};
-ghost use Rattle.macro_rules.specs.Macros.{in_events};
 ghost use Rattle.macro_rules.specs.Offences.{head_offences, name_places, indirect_offences};
 
 use crate::files::{is_run, item_toks};
@@ -14,7 +13,7 @@ use crate::heads::Head;
 use crate::lists::{is_called, is_open_at, tokens_to};
 use crate::positions::Positions;
 use crate::replacements::{is_direct, replaces};
-use analysis::{Analysis, Event};
+use analysis::Event;
 use cs_base::{Cause, Memory, Pos, Tok};
 use line_shape::Item;
 use offences::Offence;
@@ -115,7 +114,8 @@ fn push_indirect(out: &mut Vec<Offence>, macros: &Positions, event: &Event) -> R
     }
 }
 
-fn push_all_indirect(
+/// The same at each of these events.
+pub(crate) fn push_all_indirect(
     out: &mut Vec<Offence>,
     macros: &Positions,
     events: &[Event],
@@ -124,20 +124,6 @@ fn push_all_indirect(
 {
     for event in events {
         push_indirect(out, macros, event)?;
-    }
-    Ok(())
-}
-
-/// The same in all units.
-pub(crate) fn push_events(
-    out: &mut Vec<Offence>,
-    a: &Analysis,
-    macros: &Positions,
-) -> Result<(), Memory>
-    ensures { OnOk result (out.new.items ≡ out.old.items ++ in_events (indirect_offences macros.now) a.now.value) }
-{
-    for unit in 0..a.units() {
-        push_all_indirect(out, macros, a.text(unit + 1).events())?;
     }
     Ok(())
 }

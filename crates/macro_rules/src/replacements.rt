@@ -85,18 +85,6 @@ fn push_all_defined(out: &mut Positions, class: &Class<'_>, events: &[Event]) ->
     Ok(())
 }
 
-/// The names of the macros of a class, where lines define them.
-pub(crate) fn macro_places(alloc: Global, class: &Class<'_>) -> Result<Positions, Memory>
-    ensures { IfOk result (λ places. places ≡ macro_places class.now.members class.now.analysis.value) }
-{
-    let a = class.analysis();
-    let mut out = Positions::new(alloc)?;
-    for unit in 0..a.units() {
-        push_all_defined(&mut out, class, a.text(unit + 1).events())?;
-    }
-    Ok(out)
-}
-
 /// Whether an event replaces a name by one of the macros whose names stand here.
 pub(crate) fn replaces(macros: &Positions, event: &Event) -> bool
     ensures { result ≡ replaces macros.now event.now }
@@ -149,7 +137,8 @@ pub(crate) fn called_places(
 {
     let mut out = Positions::new(alloc)?;
     for unit in 0..a.units() {
-        push_all_called(&mut out, macros, a.text(unit + 1).events())?;
+        let one = a.unit(alloc, unit + 1)?;
+        push_all_called(&mut out, macros, one.text().events())?;
     }
     Ok(out)
 }
@@ -175,21 +164,6 @@ fn push_all_replaced(
         push_replaced(out, macros, event)?;
     }
     Ok(())
-}
-
-/// Where names stand that the macros replace whose names stand here.
-pub(crate) fn replaced_places(
-    alloc: Global,
-    a: &Analysis,
-    macros: &Positions,
-) -> Result<Positions, Memory>
-    ensures { IfOk result (λ places. places ≡ in_events (replaced_place macros.now) a.now.value) }
-{
-    let mut out = Positions::new(alloc)?;
-    for unit in 0..a.units() {
-        push_all_replaced(&mut out, macros, a.text(unit + 1).events())?;
-    }
-    Ok(out)
 }
 
 // Whether an event replaces `__LINE__` by the number of its line, or `__COUNTER__` by the next number of the unit.
@@ -228,13 +202,39 @@ fn push_all_numbers(out: &mut Positions, events: &[Event]) -> Result<(), Memory>
     Ok(())
 }
 
-/// Where numbers of lines are put in.
-pub(crate) fn number_places(alloc: Global, a: &Analysis) -> Result<Positions, Memory>
-    ensures { IfOk result (λ places. places ≡ number_places a.now.value) }
+/// What is found in all units at once: the names of the macros of a class, where lines define them; where names stand that some
+/// macros replace; and where numbers of lines are put in.
+#[derive(Drop)]
+pub(crate) struct Found {
+    pub(crate) macros: Positions,
+    pub(crate) replaced: Positions,
+    pub(crate) lines: Positions,
+}
+
+/// All of them; those macros have their names here by which names are replaced.
+pub(crate) fn found_places(
+    alloc: Global,
+    a: &Analysis,
+    class: &Class<'_>,
+    replacing: &Positions,
+) -> Result<Found, Memory>
+    ensures macros { IfOk result (λ f. f.macros ≡ macro_places class.now.members a.now.value) }
+    ensures replaced { IfOk result (λ f. f.replaced ≡ in_events (replaced_place replacing.now) a.now.value) }
+    ensures lines { IfOk result (λ f. f.lines ≡ number_places a.now.value) }
 {
-    let mut out = Positions::new(alloc)?;
+    let mut macros = Positions::new(alloc)?;
+    let mut replaced = Positions::new(alloc)?;
+    let mut lines = Positions::new(alloc)?;
     for unit in 0..a.units() {
-        push_all_numbers(&mut out, a.text(unit + 1).events())?;
+        let one = a.unit(alloc, unit + 1)?;
+        let events = one.text().events();
+        push_all_defined(&mut macros, class, events)?;
+        push_all_replaced(&mut replaced, replacing, events)?;
+        push_all_numbers(&mut lines, events)?;
     }
-    Ok(out)
+    Ok(Found {
+        macros,
+        replaced,
+        lines,
+    })
 }

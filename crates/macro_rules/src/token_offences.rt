@@ -2,12 +2,12 @@
 ghost use Rattle.std.specs.Prelude.{◌≡◌, ◌++◌, OnOk};
 ghost use Rattle.std.specs.List.{flat_map};
 ghost use Rattle.cs_base.specs.Token.{origin_at};
-ghost use Rattle.macro_rules.specs.Offences.{origin_offences, token_offences, is_string, kept_offences, text_offences, all_texts};
+ghost use Rattle.macro_rules.specs.Offences.{origin_offences, token_offences, is_string, kept_offences, text_offences};
 ghost use Rattle.cs_base.specs.declared.causes.Cause.TheVariants as cause;
 
 use crate::name_offences::push_at;
 use crate::positions::Positions;
-use analysis::{Analysis, UnitText};
+use analysis::UnitText;
 use cs_base::{Cause, Kind, Memory, Tok};
 use offences::{Offence, length};
 
@@ -88,25 +88,15 @@ fn push_strings(out: &mut Vec<Offence>, calls: &Positions, toks: &[Tok]) -> Resu
     Ok(())
 }
 
-// Both in a unit.
-fn push_text(out: &mut Vec<Offence>, calls: &Positions, text: &UnitText) -> Result<(), Memory>
+/// Both in a unit.
+pub(crate) fn push_text(
+    out: &mut Vec<Offence>,
+    calls: &Positions,
+    text: &UnitText,
+) -> Result<(), Memory>
     ensures { OnOk result (out.new.items ≡ out.old.items ++ text_offences calls.now text.now) }
 {
     push_all_kept(out, calls, text.toks())?;
     push_all_kept(out, calls, text.pasted())?;
     push_strings(out, calls, text.stringized())
-}
-
-/// The same in all units.
-pub(crate) fn push_texts(
-    out: &mut Vec<Offence>,
-    a: &Analysis,
-    calls: &Positions,
-) -> Result<(), Memory>
-    ensures { OnOk result (out.new.items ≡ out.old.items ++ all_texts calls.now a.now.value) }
-{
-    for unit in 0..a.units() {
-        push_text(out, calls, a.text(unit + 1))?;
-    }
-    Ok(())
 }

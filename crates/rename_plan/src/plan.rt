@@ -1,10 +1,9 @@
 // The edits of a renaming, or its first refusal.
-ghost use Rattle.std.specs.Prelude.{◌≡◌, List, None, IfOk};
+ghost use Rattle.std.specs.Prelude.{◌≡◌, Bool, List, None, IfOk};
 ghost use Rattle.offences.specs.Class.{IsClass};
-ghost use Rattle.cs_base.specs.declared.causes.Cause.TheVariants.{Stringized as stringized_cause};
-ghost use Rattle.offences.specs.First.{standing, FirstThen, IsFirst};
+ghost use Rattle.offences.specs.First.{FirstThen, IsFirst};
 ghost use Rattle.rename_rules.specs.Offences.{member_offences, offences_of, spelling_offences};
-ghost use Rattle.rename_rules.specs.Offences.{kept_string_places};
+ghost use Rattle.rename_rules.specs.InUnits.{AreInUnits};
 ghost use Rattle.rename_rules.specs.GnuOffences.{with_failing};
 ghost use Rattle.offences.specs.declared.firsts.Offence.{Offence as AnOffence};
 ghost use Rattle.rename_rules.specs.Renaming.{IsClassRenamed, IsRenamed, IsRenaming};
@@ -19,8 +18,8 @@ use cs_base::{Edits, Memory, Part};
 use lexer::is_identifier;
 use offences::{Offence, PlanFault, Refusal, refused};
 use rename_rules::{
-    Renaming, clashing, edit_files, escaped, failing, gnu_offences, header_names, no_identifiers,
-    occurring, read_only, reserved, shadowed, stringized, too_large,
+    InUnits, Renaming, and_first, clashing, edit_files, failing, gnu_offences, in_units,
+    no_identifiers, occurring, read_only, reserved, too_large,
 };
 use std::alloc::Global;
 
@@ -131,8 +130,9 @@ fn first_offence(
     ensures { IfOk result (IsFirst renaming.now.class.analysis.value.table
         (offences_of renaming.now.class.analysis.value renaming.now.class.members renaming.now.name strings)) }
 {
-    let at_members = member_offences(alloc, renaming, strings)?;
-    let known = spelling_offences(alloc, renaming, at_members)?;
+    let found = in_units(alloc, renaming, strings)?;
+    let at_members = member_offences(alloc, renaming, &found)?;
+    let known = spelling_offences(alloc, renaming, &found, at_members)?;
     or_failing(alloc, renaming, known)
 }
 
@@ -152,46 +152,40 @@ fn or_failing(
     }
 }
 
-// The first of those at members and the tokens that hold them.
+// The first of those at members and the tokens that hold them, where these were found in units.
 fn member_offences(
     alloc: Global,
     renaming: &Renaming<'_>,
-    strings: bool,
+    found: &InUnits,
 ) -> Result<Option<Offence>, Memory>
-    ensures { IfOk result (FirstThen renaming.now.class.analysis.value.table
-        (member_offences renaming.now.class.analysis.value renaming.now.class.members renaming.now.name strings) None) }
+    ensures { IfOk result (λ first. (strings : Bool)
+        → AreInUnits renaming.now.class.analysis.value renaming.now.class.members renaming.now.name strings found.now
+        → FirstThen renaming.now.class.analysis.value.table
+        (member_offences renaming.now.class.analysis.value renaming.now.class.members renaming.now.name strings) None first) }
 {
     let kept = read_only(renaming, None);
     let words = reserved(alloc, renaming, kept)?;
-    let made = of_strings(renaming, strings, words);
-    let headers = header_names(renaming, made);
+    let made = and_first(renaming, words, found.strings);
+    let headers = and_first(renaming, made, found.headers);
     Ok(no_identifiers(renaming, headers))
-}
-
-// The first of these and of those of strings that must stay, or of their escape sequences.
-fn of_strings(renaming: &Renaming<'_>, strings: bool, first: Option<Offence>) -> Option<Offence>
-    ensures { FirstThen renaming.now.class.analysis.value.table (standing stringized_cause
-        (kept_string_places renaming.now.class.analysis.value renaming.now.class.members strings)) first result }
-{
-    if strings {
-        escaped(renaming, first)
-    } else {
-        stringized(renaming, first)
-    }
 }
 
 // The first of these and of those of new spellings among all others.
 fn spelling_offences(
     alloc: Global,
     renaming: &Renaming<'_>,
+    found: &InUnits,
     first: Option<Offence>,
 ) -> Result<Option<Offence>, Memory>
-    ensures { IfOk result (FirstThen renaming.now.class.analysis.value.table
-        (spelling_offences renaming.now.class.analysis.value renaming.now.class.members renaming.now.name) first) }
+    ensures { IfOk result (λ now. (strings : Bool)
+        → AreInUnits renaming.now.class.analysis.value renaming.now.class.members renaming.now.name strings found.now
+        → FirstThen renaming.now.class.analysis.value.table
+        (spelling_offences renaming.now.class.analysis.value renaming.now.class.members renaming.now.name) first now) }
 {
     let words = occurring(renaming, first);
-    let pairs = clashing(alloc, renaming, words)?;
+    let all = and_first(renaming, words, found.pasted);
+    let pairs = clashing(alloc, renaming, all)?;
     let sizes = too_large(alloc, renaming, pairs)?;
-    let hidden = shadowed(renaming, sizes);
+    let hidden = and_first(renaming, sizes, found.bare);
     gnu_offences(alloc, renaming, hidden)
 }

@@ -2,6 +2,7 @@ pub mod RespellingLemmas
 pub mod UnitLemmas
 pub mod SpelledLemmas
 pub mod OccurrenceLemmas
+pub mod InUnitLemmas
 pub mod RunLemmas
 pub mod SizeLemmas
 pub mod PrefixLemmas

@@ -11,6 +11,7 @@ use Rattle.cs_base.specs.declared.positions.Pos.{Pos}
 use Rattle.cs_base.specs.Token.{Token}
 use Rattle.cs_base.proofs.ListLemmas.{flat_map_same}
 use Rattle.analysis.specs.Below.c_types.declared.lists.Range.{Range}
+use Rattle.analysis.specs.Below.source_files.Files.{Table}
 use Rattle.analysis.specs.Analysis.{AnalysisValue, UnitAnalysis}
 use Rattle.analysis.specs.BroughtNumbers.{all_brought}
 use Rattle.offences.specs.declared.firsts.Offence.{Offence}
@@ -26,25 +27,30 @@ pub new_told : (members : List Part) (name : List ℕ) (toks : List Token) (t : 
 new_told members name toks t table text b told same e =
     sym (e ∙ ap (λ (word : List ℕ). list_any (is_new word) table) same ∙ told (is_new t.text))
 
-pub all_occurring : (a : AnalysisValue) (members : List Part) (name : List ℕ) (toks : List Token) (w x y z : Option Offence) → toks ≡ holders a members
+-- at two lists of tokens, one behind the other
+both_occurring : (table : Table) (place : Token → List Pos) (xs ys : List Token) (w x y : Option Offence) → FirstThen table (standing cause.Occurs (flat_map place xs)) w x
+    → FirstThen table (standing cause.Occurs (flat_map place ys)) x y → FirstThen table (standing cause.Occurs (flat_map place (xs ++ ys))) w y
+both_occurring table place xs ys w x y f g =
+    let stand : List Pos → List Offence = standing cause.Occurs in
+    let all : stand (flat_map place (xs ++ ys)) ≡ stand (flat_map place xs) ++ stand (flat_map place ys) =
+    ap stand (flat_map-append place xs ys) ∙ map-append (offence cause.Occurs) (flat_map place xs) (flat_map place ys) in
+    rw all (then_both table (stand (flat_map place xs)) (stand (flat_map place ys)) w x y f g)
+
+pub file_occurring : (a : AnalysisValue) (members : List Part) (name : List ℕ) (toks : List Token) (w x y : Option Offence)
     → FirstThen a.table (standing cause.Occurs (flat_map (occurring_place members name toks) (kept_tokens 0 a.table))) w x
     → FirstThen a.table (standing cause.Occurs (flat_map (occurring_place members name toks) (all_brought a.units))) x y
-    → FirstThen a.table (standing cause.Occurs (flat_map (occurring_place members name toks) (pasted_tokens a))) y z
-    → FirstThen a.table (standing cause.Occurs (occurring_places a members name)) w z
-unfolding occurring_places all_file_tokens
-all_occurring a members name toks w x y z same f g h =
-    let place : Token → List Pos = occurring_place members name toks in
-    let files = flat_map place (kept_tokens 0 a.table) in
-    let numbers = flat_map place (all_brought a.units) in
-    let pasted = flat_map place (pasted_tokens a) in
-    let stand : List Pos → List Offence = standing cause.Occurs in
-    let lists : flat_map place ((kept_tokens 0 a.table ++ all_brought a.units) ++ pasted_tokens a) ≡ (files ++ numbers) ++ pasted =
-    flat_map-append place (kept_tokens 0 a.table ++ all_brought a.units) (pasted_tokens a)
-    ∙ ap (λ (ps : List Pos). ps ++ pasted) (flat_map-append place (kept_tokens 0 a.table) (all_brought a.units)) in
-    let all : stand (flat_map place ((kept_tokens 0 a.table ++ all_brought a.units) ++ pasted_tokens a)) ≡ (stand files ++ stand numbers) ++ stand pasted =
-    ap stand lists ∙ map-append (offence cause.Occurs) (files ++ numbers) pasted
-    ∙ ap (λ (os : List Offence). os ++ stand pasted) (map-append (offence cause.Occurs) files numbers) in
-    rw (← same) (rw all (then_both a.table (stand files ++ stand numbers) (stand pasted) w y z (then_both a.table (stand files) (stand numbers) w x y f g) h))
+    → FirstThen a.table (standing cause.Occurs (flat_map (occurring_place members name toks) (all_file_tokens a))) w y
+unfolding all_file_tokens
+file_occurring a members name toks w x y f g =
+    both_occurring a.table (occurring_place members name toks) (kept_tokens 0 a.table) (all_brought a.units) w x y f g
+
+pub all_occurring : (a : AnalysisValue) (members : List Part) (name : List ℕ) (w x y : Option Offence)
+    → FirstThen a.table (standing cause.Occurs (flat_map (occurring_place members name (holders a members)) (all_file_tokens a))) w x
+    → FirstThen a.table (standing cause.Occurs (flat_map (occurring_place members name (holders a members)) (pasted_tokens a))) x y
+    → FirstThen a.table (standing cause.Occurs (occurring_places a members name)) w y
+unfolding occurring_places
+all_occurring a members name w x y f g =
+    both_occurring a.table (occurring_place members name (holders a members)) (all_file_tokens a) (pasted_tokens a) w x y f g
 
 -- ---- bare names
 

@@ -5,6 +5,7 @@ pub mod Escapes
 pub mod Runs
 pub mod GnuOffences
 pub mod Offences
+pub mod InUnits
 pub mod Renaming
 -- What inner functions promise each other.
 pub mod GnuTexts

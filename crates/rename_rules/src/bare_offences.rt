@@ -4,11 +4,10 @@ ghost use Rattle.std.specs.List.{flat_map, list_any};
 ghost use Rattle.cs_base.specs.declared.causes.Cause.TheVariants as cause;
 ghost use Rattle.analysis.specs.Below.c_types.Declarations.{spelling_at};
 ghost use Rattle.offences.specs.First.{standing, FirstThen};
-ghost use Rattle.rename_rules.specs.Offences.{is_shadow, shadowed_places};
+ghost use Rattle.rename_rules.specs.Offences.{is_shadow};
 ghost use Rattle.rename_rules.specs.Respellings.{bare_place_by, bare_places_by};
 
 use crate::occurrences::at_first;
-use crate::renamings::Renaming;
 use crate::respelling_table::{Respelling, is_old_spelling};
 use analysis::{Analysis, Range};
 use cs_base::{Cause, Tok};
@@ -78,8 +77,8 @@ fn at_index(
     }
 }
 
-// The same at each bare name of a unit.
-fn at_indices(
+/// The same at each bare name of a unit.
+pub(crate) fn at_indices(
     a: &Analysis,
     table: &[Respelling],
     toks: &[Tok],
@@ -92,23 +91,6 @@ fn at_indices(
     let mut now = first;
     for k in bare {
         now = at_index(a, table, toks, typedefs, *k, now);
-    }
-    now
-}
-
-/// `ShadowedTypedef`: at each bare name in the range of a typedef name of its spelling, where this is the old spelling
-/// of a token that holds a member.
-pub fn shadowed(renaming: &Renaming<'_>, first: Option<Offence>) -> Option<Offence>
-    ensures { FirstThen renaming.now.class.analysis.value.table (standing cause.ShadowedTypedef
-        (shadowed_places renaming.now.class.analysis.value renaming.now.class.members)) first result }
-{
-    let a = renaming.class().analysis();
-    let table = renaming.table();
-    let mut now = first;
-    for unit in 0..a.units() {
-        let bound = a.bound(unit + 1);
-        let text = a.text(unit + 1);
-        now = at_indices(a, table, text.toks(), bound.typedefs(), bound.bare(), now);
     }
     now
 }

@@ -2,10 +2,9 @@
 ghost use Rattle.std.specs.Prelude.{◌≡◌, ◌&&◌, not, false};
 ghost use Rattle.cs_base.specs.declared.causes.Cause.TheVariants as cause;
 ghost use Rattle.offences.specs.First.{standing, FirstThen};
-ghost use Rattle.rename_rules.specs.Escapes.{escaped_place, escaped_places, escaped_places_of, is_backslash, is_escaped};
+ghost use Rattle.rename_rules.specs.Escapes.{escaped_place, escaped_places_of, is_backslash, is_escaped};
 
 use crate::member_offences::in_token;
-use crate::renamings::Renaming;
 use analysis::Analysis;
 use cs_base::{Cause, Tok};
 use offences::{Class, Offence};
@@ -47,8 +46,8 @@ fn escaped_at(
     }
 }
 
-// The same in the tokens of strings, one behind another.
-fn escaped_in(
+/// The same in the tokens of strings, one behind another.
+pub(crate) fn escaped_in(
     a: &Analysis,
     class: &Class<'_>,
     toks: &[Tok],
@@ -62,29 +61,6 @@ fn escaped_in(
     for tok in toks {
         now = escaped_at(a, class, behind, tok, now);
         behind = begins_escape(behind, tok);
-    }
-    now
-}
-
-/// `Stringized`, where strings may follow a renaming: at each member in a token that stands directly behind a backslash in
-/// what `#` makes a string of.
-pub fn escaped(renaming: &Renaming<'_>, first: Option<Offence>) -> Option<Offence>
-    ensures { FirstThen renaming.now.class.analysis.value.table (standing cause.Stringized
-        (escaped_places renaming.now.class.analysis.value renaming.now.class.members)) first result }
-{
-    let class = renaming.class();
-    escaped_of(class.analysis(), class, first)
-}
-
-// The same for a class.
-fn escaped_of(a: &Analysis, class: &Class<'_>, first: Option<Offence>) -> Option<Offence>
-    ensures { FirstThen a.now.value.table (standing cause.Stringized
-        (escaped_places a.now.value class.now.members)) first result }
-{
-    let mut now = first;
-    for unit in 0..a.units() {
-        let text = a.text(unit + 1);
-        now = escaped_in(a, class, text.stringized(), now);
     }
     now
 }

@@ -13,7 +13,7 @@ use crate::renamings::Renaming;
 use crate::words_and_texts::has_gnu;
 use analysis::{Analysis, Name};
 use cs_base::{Cause, Memory, Pos, Tok};
-use offences::{Moves, Offence, class_moves, first_with, renamed_toks};
+use offences::{Moves, Offence, class_moves, first_with, renamed_toks, toks_stay};
 use same_readings::{goes_whole, reads_so};
 use std::alloc::Global;
 
@@ -44,16 +44,20 @@ fn is_kept(alloc: Global, a: &Analysis, moves: &Moves, unit: u32) -> Result<bool
     requires end { unit ≤ length a.now.value.units }
     ensures { IfOk result (IsKeptIn a.now.value (renaming_by moves.now) unit) }
 {
-    let toks = a.text(unit).toks();
-    let bound = a.bound(unit);
+    let one = a.unit(alloc, unit)?;
+    let toks = one.text().toks();
+    let bound = one.bound();
     if !are_identifiers(toks, bound.names()) {
         return Ok(false);
+    }
+    if toks_stay(moves, toks) && goes_whole(toks, toks) {
+        return Ok(true);
     }
     let renamed = renamed_toks(alloc, moves, toks)?;
     if goes_whole(toks, &renamed) {
         return Ok(true);
     }
-    let tree = a.tree(alloc, unit)?;
+    let tree = one.tree(alloc)?;
     reads_so(alloc, &renamed, &tree, bound)
 }
 

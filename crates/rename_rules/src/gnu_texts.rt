@@ -6,13 +6,15 @@ ghost use Rattle.offences.specs.First.{standing, FirstThen};
 ghost use Rattle.rename_rules.specs.GnuOffences.{is_named, joined, text_toks};
 ghost use Rattle.rename_rules.specs.GnuTexts.{at_place, may_be_named, may_name, may_stand, stands_in, text_place_in};
 ghost use Rattle.cs_base.specs.Token.{Token};
+ghost use Rattle.gnu_lists.specs.Strings.{given_by};
+ghost use Rattle.part_respell.specs.Respelled.{spelled};
 
 use crate::renamings::Renaming;
 use crate::spelling::spelled;
 use analysis::Analysis;
 use cs_base::{Cause, Memory, Tok};
 use gnu_lists::{Adjacent, holds_word, push_given};
-use offences::{Offence, first_with};
+use offences::{Offence, first_with, holds_member};
 use std::alloc::Global;
 
 // What strings side by side give to the assembler once members are respelled.
@@ -21,10 +23,28 @@ fn joined(alloc: Global, renaming: &Renaming<'_>, toks: &[Tok]) -> Result<Vec<u8
 {
     let mut out = Vec::new(alloc);
     for tok in toks {
-        let text = spelled(alloc, renaming.class(), renaming.name(), tok)?;
-        push_given(&mut out, &text)?;
+        push_token(alloc, &mut out, renaming, tok)?;
     }
     Ok(out)
+}
+
+#[tactic(auto, using(crate::proofs::SpelledLemmas::held_none))]
+// Adds what one of them gives. It is spelled as it was where it holds no member.
+fn push_token(
+    alloc: Global,
+    out: &mut Vec<u8>,
+    renaming: &Renaming<'_>,
+    tok: &Tok,
+) -> Result<(), Memory>
+    ensures { OnOk result (out.new.items ≡ out.old.items
+        ++ given_by (spelled renaming.now.class.members renaming.now.name tok.now)) }
+{
+    let class = renaming.class();
+    if holds_member(class, tok) {
+        let text = spelled(alloc, class, renaming.name(), tok)?;
+        return push_given(out, &text);
+    }
+    push_given(out, tok.text())
 }
 
 // Whether a text has an old name as a word, or the new one.

@@ -85,12 +85,13 @@ fn push_files(out: &mut Vec<Tok>, class: &Class<'_>) -> Result<(), Memory>
 }
 
 // Adds those of the pasted tokens.
-fn push_pasted(out: &mut Vec<Tok>, class: &Class<'_>) -> Result<(), Memory>
+fn push_pasted(alloc: Global, out: &mut Vec<Tok>, class: &Class<'_>) -> Result<(), Memory>
     ensures { OnOk result (out.new.items ≡ out.old.items ++ filter (holds_member class.now.members) (pasted_tokens class.now.analysis.value)) }
 {
     let a = class.analysis();
     for unit in 0..a.units() {
-        let text = a.text(unit + 1);
+        let one = a.unit(alloc, unit + 1)?;
+        let text = one.text();
         push_all(out, class, text.pasted())?;
     }
     Ok(())
@@ -103,6 +104,6 @@ pub fn holders(alloc: Global, class: &Class<'_>) -> Result<Vec<Tok>, Memory>
     let mut out = Vec::new(alloc);
     push_files(&mut out, class)?;
     push_all(&mut out, class, class.analysis().numbers_brought())?;
-    push_pasted(&mut out, class)?;
+    push_pasted(alloc, &mut out, class)?;
     Ok(out)
 }

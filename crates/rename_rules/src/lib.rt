@@ -8,10 +8,12 @@
 //! one offence: which member holds a character, how a token is spelled anew; and `edit_files` gives the edits, file by file in the
 //! order of paths (`specs/FileOrder.antt`).
 //!
-//! A unit of GNU C is looked at twice: `gnu_offences` reads its tree again, which lists names that may denote nothing and texts for
-//! the assembler, unless its tokens alone tell that none of these has to do with the class; and where nothing else stands, `failing` reads and binds its renamed tokens, and holds both against what they
-//! were. The plan of a whole renaming, and what a renaming keeps, belong to the crates above. Read the first four files in this
-//! order.
+//! What stands in texts of units is found in one go over them, the first of each of four causes (`in_units`), and
+//! comes to the others later (`and_first`). A unit of GNU C is looked at twice more: `gnu_offences` reads its tree
+//! again, which lists names that may denote nothing and texts for the assembler, unless its tokens alone tell that
+//! none of these has to do with the class; and where nothing else stands, `failing` reads and binds its renamed
+//! tokens, and holds both against what they were. The plan of a whole renaming, and what a renaming keeps, belong
+//! to the crates above. Read the first four files in this order.
 #![tactic(auto)]
 
 mod bare_offences;
@@ -29,18 +31,18 @@ mod sizes;
 mod spelling;
 mod symbols;
 mod token_offences;
+mod unit_offences;
 mod words_and_texts;
 
-pub use bare_offences::shadowed;
 pub use edits::edit_files;
-pub use escapes::escaped;
 pub use failing_units::failing;
 pub use held_tokens::holders;
-pub use member_offences::{header_names, no_identifiers, read_only, stringized};
+pub use member_offences::{no_identifiers, read_only};
 pub use occurrences::occurring;
 pub use renamings::Renaming;
 pub use respelling_table::{Respelling, is_clash, is_new_spelling, is_old_spelling, respellings};
 pub use sizes::{run_length, too_large};
 pub use spelling::spelled;
 pub use token_offences::{clashing, reserved};
+pub use unit_offences::{InUnits, and_first, in_units};
 pub use words_and_texts::gnu_offences;

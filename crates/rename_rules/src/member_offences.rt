@@ -4,7 +4,7 @@ ghost use Rattle.std.specs.List.{flat_map};
 ghost use Rattle.cs_base.specs.declared.causes.Cause.TheVariants as cause;
 ghost use Rattle.analysis.specs.Below.line_shape.Signs.{is_name};
 ghost use Rattle.offences.specs.First.{standing, FirstThen};
-ghost use Rattle.rename_rules.specs.Offences.{read_only_place, read_only_places, stringized_places, header_places, no_identifier_place, no_identifier_places};
+ghost use Rattle.rename_rules.specs.Offences.{read_only_place, read_only_places, no_identifier_place, no_identifier_places};
 ghost use Rattle.rename_rules.specs.Tokens.{start_of, starts_in};
 ghost use Rattle.cs_base.specs.Token.{origin_at};
 
@@ -48,8 +48,8 @@ pub(crate) fn in_token(
     now
 }
 
-// The same in each of these tokens.
-fn in_tokens(
+/// The same in each of these tokens.
+pub(crate) fn in_tokens(
     a: &Analysis,
     class: &Class<'_>,
     toks: &[Tok],
@@ -95,50 +95,6 @@ pub fn read_only(renaming: &Renaming<'_>, first: Option<Offence>) -> Option<Offe
 {
     let class = renaming.class();
     read_only_in(class.analysis(), class.members(), first)
-}
-
-/// `Stringized`: at each member in a token that `#` made a string of.
-pub fn stringized(renaming: &Renaming<'_>, first: Option<Offence>) -> Option<Offence>
-    ensures { FirstThen renaming.now.class.analysis.value.table (standing cause.Stringized
-        (stringized_places renaming.now.class.analysis.value renaming.now.class.members)) first result }
-{
-    let class = renaming.class();
-    stringized_in(class.analysis(), class, first)
-}
-
-// The same for a class.
-fn stringized_in(a: &Analysis, class: &Class<'_>, first: Option<Offence>) -> Option<Offence>
-    ensures { FirstThen a.now.value.table (standing cause.Stringized
-        (stringized_places a.now.value class.now.members)) first result }
-{
-    let mut now = first;
-    for unit in 0..a.units() {
-        let text = a.text(unit + 1);
-        now = in_tokens(a, class, text.stringized(), Cause::Stringized, now);
-    }
-    now
-}
-
-/// `HeaderName`: at each member in a token of an include line that was expanded.
-pub fn header_names(renaming: &Renaming<'_>, first: Option<Offence>) -> Option<Offence>
-    ensures { FirstThen renaming.now.class.analysis.value.table (standing cause.HeaderName
-        (header_places renaming.now.class.analysis.value renaming.now.class.members)) first result }
-{
-    let class = renaming.class();
-    header_names_in(class.analysis(), class, first)
-}
-
-// The same for a class.
-fn header_names_in(a: &Analysis, class: &Class<'_>, first: Option<Offence>) -> Option<Offence>
-    ensures { FirstThen a.now.value.table (standing cause.HeaderName
-        (header_places a.now.value class.now.members)) first result }
-{
-    let mut now = first;
-    for unit in 0..a.units() {
-        let text = a.text(unit + 1);
-        now = in_tokens(a, class, text.header(), Cause::HeaderName, now);
-    }
-    now
 }
 
 /// Whether a token is an identifier.

@@ -6,9 +6,9 @@ ghost use Rattle.cs_base.specs.declared.causes.Cause.TheVariants as cause;
 ghost use Rattle.analysis.specs.Below.source_files.KeptFiles.{kept_at};
 ghost use Rattle.analysis.specs.Below.lexer.Tokens.{tokens_of};
 ghost use Rattle.offences.specs.First.{standing, FirstThen};
-ghost use Rattle.rename_rules.specs.Offences.{occurring_place, occurring_places};
+ghost use Rattle.rename_rules.specs.Offences.{occurring_place};
 ghost use Rattle.rename_rules.specs.RenamingValue.{held};
-ghost use Rattle.rename_rules.specs.Tokens.{pasted_tokens};
+ghost use Rattle.rename_rules.specs.Tokens.{all_file_tokens};
 ghost use Rattle.offences.specs.Tokens.{file_toks, first_place, kept_tokens};
 
 use crate::renamings::Renaming;
@@ -48,8 +48,8 @@ fn occurring_at(
     }
 }
 
-// The same at each of these tokens.
-fn occurring_in(
+/// The same at each of these tokens.
+pub(crate) fn occurring_in(
     a: &Analysis,
     renaming: &Renaming<'_>,
     all: &[Tok],
@@ -106,31 +106,13 @@ fn occurring_in_files(
     now
 }
 
-// The same in the pasted tokens.
-fn occurring_in_pasted(
-    a: &Analysis,
-    renaming: &Renaming<'_>,
-    first: Option<Offence>,
-) -> Option<Offence>
-    ensures { FirstThen a.now.value.table (standing cause.Occurs (flat_map (occurring_place renaming.now.class.members renaming.now.name (held renaming.now.class)) (pasted_tokens a.now.value))) first result }
-{
-    let mut now = first;
-    for unit in 0..a.units() {
-        let text = a.text(unit + 1);
-        now = occurring_in(a, renaming, text.pasted(), now);
-    }
-    now
-}
-
-/// `Occurs`: at each file token, and at each pasted token, whose spelling is a new spelling of the tokens that hold
-/// members.
+/// `Occurs`: at each file token whose spelling is a new spelling of the tokens that hold members.
 pub fn occurring(renaming: &Renaming<'_>, first: Option<Offence>) -> Option<Offence>
     ensures { FirstThen renaming.now.class.analysis.value.table (standing cause.Occurs
-        (occurring_places renaming.now.class.analysis.value renaming.now.class.members renaming.now.name)) first result }
+        (flat_map (occurring_place renaming.now.class.members renaming.now.name (held renaming.now.class)) (all_file_tokens renaming.now.class.analysis.value))) first result }
 {
     let a = renaming.class().analysis();
     let in_files = occurring_in_files(a, renaming, first);
     let brought = a.numbers_brought();
-    let in_numbers = occurring_in(a, renaming, brought, in_files);
-    occurring_in_pasted(a, renaming, in_numbers)
+    occurring_in(a, renaming, brought, in_files)
 }

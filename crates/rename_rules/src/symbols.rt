@@ -116,8 +116,9 @@ pub(crate) fn symbols(alloc: Global, class: &Class<'_>) -> Result<Vec<Tok>, Memo
     let a = class.analysis();
     let mut olds = Vec::new(alloc);
     for unit in 0..a.units() {
-        let bound = a.bound(unit + 1);
-        let text = a.text(unit + 1);
+        let one = a.unit(alloc, unit + 1)?;
+        let bound = one.bound();
+        let text = one.text();
         push_names(&mut olds, class, bound, text.toks(), bound.names())?;
     }
     Ok(olds)

@@ -143,13 +143,14 @@ fn in_unit(
     if a.gnu_begin(unit).is_none() {
         return Ok(first);
     }
-    let toks = a.text(unit).toks();
-    let bound = a.bound(unit);
+    let one = a.unit(alloc, unit)?;
+    let toks = one.text().toks();
+    let bound = one.bound();
     let quiet = is_quiet(alloc, renaming, olds, bound, toks)?;
     if quiet {
         return Ok(first);
     }
-    let tree = a.tree(alloc, unit)?;
+    let tree = one.tree(alloc)?;
     let lists = lists_of(alloc, toks, &tree)?;
     in_lists(alloc, a, renaming, olds, bound, toks, &lists, first)
 }

@@ -50,7 +50,7 @@ module _ (a b : List Token) (spelled : (i j : ℕ) → alike b i j ≡ alike a i
   anywhere_same : (space : Space) (i : ℕ) (facts : Facts) → anywhere b space i facts ≡ anywhere a space i facts
   anywhere_same space i facts = looked_same space i _ facts
 
-  linked_same : (i : ℕ) (facts : Facts) → linked b i facts ≡ linked a i facts
+  pub linked_same : (i : ℕ) (facts : Facts) → linked b i facts ≡ linked a i facts
   linked_same i facts = looked_same ordinary i _ facts
 
   mixed_same : (linkage : Linkage) (i : ℕ) (facts : Facts) → is_mixed b linkage i facts ≡ is_mixed a linkage i facts

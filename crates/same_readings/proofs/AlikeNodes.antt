@@ -1,5 +1,5 @@
 -- The steps of a walk are the same where tokens are alike one another, and say the same by themselves.
-use Rattle.std.proofs.Common.{ℕ, ◌≡◌, Bool, true, false, ◌&&◌, ◌||◌, not, if◌then◌else◌, ◌==◌, List, Option, None, Some, is_some, refl, ap, ◌∙◌}
+use Rattle.std.proofs.Common.{ℕ, ◌+◌, ◌≡◌, Bool, true, false, ◌&&◌, ◌||◌, not, if◌then◌else◌, ◌==◌, List, Option, None, Some, is_some, refl, ap, ◌∙◌}
 use Rattle.std.specs.Prelude.{codes}
 use Rattle.std.specs.Option.{option_map_or}
 use Rattle.cs_base.specs.Reserved.{is_built_in}
@@ -26,12 +26,12 @@ use Rattle.gnu_bind.specs.declared.senses.Sense.{Sense}
 use Rattle.gnu_bind.specs.declared.senses.Special.{Special}
 use Rattle.gnu_bind.specs.declared.senses.Special.TheVariants.{Usual as usual, Open as open_, Word as word, Fetch as fetch}
 use Rattle.gnu_bind.specs.BlockLabels.{block_labels, block_label as declared_label, with_block_label, block_label_at, labelled_by, labelled, jumped_by, jumped}
-use Rattle.gnu_bind.specs.Names.{names_function, is_unseen, is_word, name_read, name_type, path_read, path_type}
+use Rattle.gnu_bind.specs.Names.{names_function, is_unseen, is_word, implied_entity, implied_by, is_implied, implied, denoting, denoted_type, name_read, name_type, path_read, path_type}
 use Rattle.gnu_bind.specs.Roles.{role_in}
 use Rattle.gnu_bind.specs.Senses.{attribute_name, callee_in, is_fetch_by, away, special_in, sense_in}
 use Rattle.gnu_bind.specs.Types.{is_extended, of_prefix, type_after}
 use Rattle.gnu_bind.specs.Walk.{auto_name, auto_declared, type_in, frame_begun, begun, facts_by, type_by, place_by, read_as, read, facts_ended, frame_ended, ended}
-use Rattle.gnu_bind.specs.Words.{is_path_sign}
+use Rattle.gnu_bind.specs.Words.{is_path_sign, begins_call}
 use Rattle.same_readings.specs.Alike.{AllSayTheSame, is_word_of_c}
 use Rattle.same_readings.proofs.AlikeNames as names
 
@@ -121,17 +121,37 @@ module _ (a b : List Token) (spelled : (i j : ℕ) → alike b i j ≡ alike a i
   word_same open_ i facts = unseen_same i facts
   word_same s i facts = plain_word_same i facts
 
+  implied_call_same : (f : Frame) (i : ℕ) (facts : Facts) → is_implied b f i facts ≡ is_implied a f i facts
+  implied_call_same f i facts =
+      ap (λ (c : Bool). c && (is_unseen b i facts && not (is_func b f i))) ((words (i + 1)).call)
+      ∙ (ap (λ (c : Bool). begins_call (spelling_at a (i + 1)) && (c && not (is_func b f i))) (unseen_same i facts)
+      ∙ ap (λ (c : Bool). begins_call (spelling_at a (i + 1)) && (is_unseen a i facts && not c)) (func_same f i))
+
+  implied_same : (scope : Scope) (i : ℕ) (facts : Facts) → implied b scope i facts ≡ implied a scope i facts
+  implied_same scope i facts = ap (λ (o : Option Declaration). implied_by scope i (implied_entity i o) facts) (names.linked_same a b spelled i facts)
+
+  denoting_same : (f : Frame) (i : ℕ) (facts : Facts) → denoting b f i facts ≡ denoting a f i facts
+  denoting_same f i facts =
+      ap (λ (c : Bool). if c then implied b f.scope i facts else named_facts b f i facts) (implied_call_same f i facts)
+      ∙ (ap (λ (x : Facts). if is_implied a f i facts then x else named_facts b f i facts) (implied_same f.scope i facts)
+      ∙ ap (λ (x : Facts). if is_implied a f i facts then implied a f.scope i facts else x) (named_same f i facts))
+
+  denoted_type_same : (f : Frame) (i : ℕ) (facts : Facts) → denoted_type b f i facts ≡ denoted_type a f i facts
+  denoted_type_same f i facts =
+      ap (λ (c : Bool). if c then arithmetic else named_type b f i facts) (implied_call_same f i facts)
+      ∙ ap (λ (x : CType). if is_implied a f i facts then arithmetic else x) (named_type_same f i facts)
+
   read_same_name : (s : Special) (f : Frame) (i : ℕ) (facts : Facts) → name_read b s f i facts ≡ name_read a s f i facts
   read_same_name s f i facts =
-      ap (λ (c : Bool). if c || is_word b s i facts then facts else named_facts b f i facts) (names_function_same f i)
-      ∙ (ap (λ (c : Bool). if names_function a f i || c then facts else named_facts b f i facts) (word_same s i facts)
-      ∙ ap (λ (x : Facts). if names_function a f i || is_word a s i facts then facts else x) (named_same f i facts))
+      ap (λ (c : Bool). if c || is_word b s i facts then facts else denoting b f i facts) (names_function_same f i)
+      ∙ (ap (λ (c : Bool). if names_function a f i || c then facts else denoting b f i facts) (word_same s i facts)
+      ∙ ap (λ (x : Facts). if names_function a f i || is_word a s i facts then facts else x) (denoting_same f i facts))
 
   type_same_name : (s : Special) (f : Frame) (i : ℕ) (facts : Facts) → name_type b s f i facts ≡ name_type a s f i facts
   type_same_name s f i facts =
-      ap (λ (c : Bool). if c then array arithmetic else (if is_word b s i facts then unknown else named_type b f i facts)) (names_function_same f i)
-      ∙ (ap (λ (c : Bool). if names_function a f i then array arithmetic else (if c then unknown else named_type b f i facts)) (word_same s i facts)
-      ∙ ap (λ (x : CType). if names_function a f i then array arithmetic else (if is_word a s i facts then unknown else x)) (named_type_same f i facts))
+      ap (λ (c : Bool). if c then array arithmetic else (if is_word b s i facts then unknown else denoted_type b f i facts)) (names_function_same f i)
+      ∙ (ap (λ (c : Bool). if names_function a f i then array arithmetic else (if c then unknown else denoted_type b f i facts)) (word_same s i facts)
+      ∙ ap (λ (x : CType). if names_function a f i then array arithmetic else (if is_word a s i facts then unknown else x)) (denoted_type_same f i facts))
 
   path_same : (f : Frame) (i : ℕ) (facts : Facts) → path_read b f i facts ≡ path_read a f i facts
   path_same f i facts =

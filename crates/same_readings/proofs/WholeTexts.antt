@@ -25,7 +25,7 @@ use Rattle.c99_read.specs.Reading.{read_of}
 use Rattle.c_types.specs.Declarations.{spelling_at, alike}
 use Rattle.gnu_bind.specs.Below.scope_bind.Bound.{Bound}
 use Rattle.gnu_bind.specs.Bound.{gnu_binding_of}
-use Rattle.gnu_bind.specs.Words.{is_word_attribute, fetch_prefixes, fetch_words, is_fetch, is_path_sign, is_extension}
+use Rattle.gnu_bind.specs.Words.{is_word_attribute, fetch_prefixes, fetch_words, is_fetch, is_path_sign, begins_call, is_extension}
 use Rattle.same_readings.specs.Alike.{words_of_c, is_word_of_c, SayTheSame, AllSayTheSame}
 use Rattle.same_readings.specs.AlikeLaws.{WholeTextsAreReadSo}
 use Rattle.same_readings.specs.Whole.{begins_as_name, is_free, is_identifier_kind, goes_along, all_go, goes_as, whole_from}
@@ -96,6 +96,10 @@ module _ (text : List ℕ) (free : is_free text ≡ true) where
   unfolding is_path_sign
   not_path_sign = no_words (codes "." ∷ codes "[" ∷ codes "]" ∷ codes "<:" ∷ codes ":>" ∷ []) refl
 
+  not_call : begins_call text ≡ false
+  unfolding begins_call
+  not_call = no_word (codes "(") refl
+
   not_extension : is_extension text ≡ false
   unfolding is_extension is_reserved_text is_reserved_by_gnu is_word_of_gnu
   not_extension = no_word (codes "__extension__") refl
@@ -135,6 +139,7 @@ free_same s t e f = record {
   attribute = not_attribute t f ∙ sym (not_attribute s e);
   fetch = not_fetch t f ∙ sym (not_fetch s e);
   sign = not_path_sign t f ∙ sym (not_path_sign s e);
+  call = not_call t f ∙ sym (not_call s e);
   extension = not_extension t f ∙ sym (not_extension s e);
 }
 
@@ -146,6 +151,7 @@ same_itself s t e = subst (λ (x : List ℕ). SayTheSame s x) (sym e) (record {
   attribute = refl;
   fetch = refl;
   sign = refl;
+  call = refl;
   extension = refl;
 })
 

@@ -8,7 +8,7 @@ use Rattle.cs_base.specs.Token.{Token}
 use Rattle.c99_read.specs.Below.c99_grammar.Standard.{Grammar}
 use Rattle.c99_read.specs.State.{base_at}
 use Rattle.c_types.specs.Declarations.{spelling_at, alike}
-use Rattle.gnu_bind.specs.Words.{is_word_attribute, is_fetch, is_path_sign, is_extension}
+use Rattle.gnu_bind.specs.Words.{is_word_attribute, is_fetch, is_path_sign, begins_call, is_extension}
 
 -- As many tokens, of the same classes where no name counts as a typedef name; and two are spelled alike in the one text where
 -- they are in the other.
@@ -34,6 +34,7 @@ pub record SayTheSame (s t : List ℕ) : Type 0 where
   pub attribute : is_word_attribute t ≡ is_word_attribute s
   pub fetch : is_fetch t ≡ is_fetch s
   pub sign : is_path_sign t ≡ is_path_sign s
+  pub call : begins_call t ≡ begins_call s
   pub extension : is_extension t ≡ is_extension s
 
 -- so it is with each token of two texts

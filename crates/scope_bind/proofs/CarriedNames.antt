@@ -135,7 +135,7 @@ module _ (m : ℕ → ℕ) (h : ℕ) (a b : List Token) (law : AreCarried m h a 
   body_there None = refl
   body_there (Some x) = refl
 
-  func_along : (f : Frame) (i : ℕ) → is_func b (Fr f) (m i) ≡ is_func a f i
+  pub func_along : (f : Frame) (i : ℕ) → is_func b (Fr f) (m i) ≡ is_func a f i
   func_along f i =
       ap (λ c. (c && not f.listing) && bytes_eq (spelling_at b (m i)) (codes "__func__")) (body_there f.body)
       ∙ ap (λ c. (option_map_or (λ b. true) f.body false && not f.listing) && c) (word_along m h a b law i (codes "__func__"))

@@ -292,7 +292,7 @@ impl<'a> Facts<'a> {
         self.chains.latest(space, i, Asked::Anywhere)
     }
 
-    pub(crate) fn linked(&self, i: u32) -> Option<&Declaration>
+    pub fn linked(&self, i: u32) -> Option<&Declaration>
         ensures { option_map (λ d. d.now) result ≡ linked self.now.toks i self.now.facts }
     {
         self.chains.linked(i)

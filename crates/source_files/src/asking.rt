@@ -7,8 +7,8 @@ ghost use Rattle.source_files.specs.Tables.{AreFound, OnlyAsks};
 ghost use Rattle.source_files.specs.Slots.{found_of, IsNumbered, IsRead};
 ghost use Rattle.source_files.specs.Answers.{fault_of, reads_of, IsAsked, TellsOfRead};
 
-use crate::file_table::FileTable;
 use crate::pre_fault::PreFault;
+use crate::shared_table::SharedTable;
 use crate::slot::Slot;
 use cs_base::{Files, Got, Text};
 use std::alloc::Global;
@@ -43,7 +43,7 @@ fn read_slot<F: Files>(alloc: Global, files: &mut F, path: &str) -> Result<Slot,
 // Asks for a path, unless it was asked for before.
 pub(crate) fn ask<F: Files>(
     alloc: Global,
-    table: &mut FileTable,
+    table: &mut SharedTable,
     files: &mut F,
     path: &str,
 ) -> Result<(), PreFault>

@@ -7,7 +7,7 @@ ghost use Rattle.lexer.specs.Refusal.{fault_of as lex_fault_of};
 ghost use Rattle.cs_base.specs.Outside.{ReadsOnly};
 ghost use Rattle.cs_base.specs.Limits.{most_bytes, most_bytes_of_all};
 ghost use Rattle.source_files.specs.Limits.{the_limits};
-ghost use Rattle.source_files.specs.Files.{Source, Table, lines_path, nothing_carried, absent_at, asked, found_at, number_at};
+ghost use Rattle.source_files.specs.Files.{Source, Table, carried, lines_path, nothing_carried, absent_at, asked, found_at, number_at};
 ghost use Rattle.source_files.specs.Opening.{opening, file_read};
 ghost use Rattle.source_files.specs.KeptFiles.{kept_at};
 ghost use Rattle.source_files.specs.Tables.{AreFound, AreText, BeginsWithLines, HasEachOnce};
@@ -18,11 +18,11 @@ mod editing;
 mod making;
 
 use crate::asking::ask;
-use crate::file_table::FileTable;
 use crate::kept_file::KeptFile;
 use crate::pre_fault::{PreFault, fault_at, fault_there};
+use crate::shared_table::SharedTable;
 use crate::status::{Status, is_there, status_of};
-use cs_base::{Cause, Files, MOST_BYTES, MOST_BYTES_OF_ALL, MOST_FILES, Place};
+use cs_base::{Cause, Files, MOST_BYTES, MOST_BYTES_OF_ALL, MOST_FILES, Memory, Place};
 use lexer::LexRefusal;
 use std::alloc::Global;
 use std::marker::Model;
@@ -30,7 +30,7 @@ use std::marker::Model;
 /// The files that were read, absent paths too, each under its number, and how many tokens the units had.
 #[derive(Drop)]
 pub struct Cache {
-    table: FileTable,
+    table: SharedTable,
     files: u32,
     bytes: u32,
     toks: u32,
@@ -49,15 +49,30 @@ impl Model for Cache {
 
 impl Cache {
     /// Nothing is kept.
-    pub fn new(alloc: Global) -> Cache
-        ensures { result ≡ nothing_carried }
+    pub fn new(alloc: Global) -> Result<Cache, Memory>
+        ensures { IfOk result (λ c. c ≡ nothing_carried) }
     {
-        Cache {
-            table: FileTable::new(alloc),
+        let table = SharedTable::new(alloc)?;
+        Ok(Cache {
+            table,
             files: 0,
             bytes: 0,
             toks: 0,
-        }
+        })
+    }
+
+    /// The same files, with no tokens counted, for a unit that is preprocessed once more: they lie in memory once. While both
+    /// are there, a path that has no number and a file that was not opened are answered by `Memory`.
+    pub fn shared(&self) -> Result<Cache, Memory>
+        ensures { IfOk result (λ c. c ≡ carried self.now.table 0) }
+    {
+        let table = self.table.shared()?;
+        Ok(Cache {
+            table,
+            files: self.files,
+            bytes: self.bytes,
+            toks: 0,
+        })
     }
 
     /// The kept file with this number: none exactly where the number is 0, is past the table, or is that of

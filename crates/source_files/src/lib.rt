@@ -20,6 +20,7 @@ mod kept_file;
 mod opening;
 mod pre_fault;
 mod searching;
+mod shared_table;
 mod signs;
 mod slot;
 mod status;

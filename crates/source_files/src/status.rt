@@ -4,7 +4,7 @@ ghost use Rattle.std.specs.Str.{bytes_eq};
 ghost use Rattle.source_files.specs.Files.{lines_path, found_at};
 ghost use Rattle.source_files.specs.Statuses.{IsStatus, is_missing};
 
-use crate::file_table::FileTable;
+use crate::shared_table::SharedTable;
 use crate::slot::Slot;
 
 // There is none; it is kept under this number; or it was not opened yet, and has this number and so
@@ -16,7 +16,7 @@ pub(crate) enum Status {
     Unread(u32, usize),
 }
 
-pub(crate) fn status_of(table: &FileTable, path: &[u8]) -> Status
+pub(crate) fn status_of(table: &SharedTable, path: &[u8]) -> Status
     requires { bytes_eq path.now lines_path ≡ false }
     ensures { IsStatus table.now path.now result }
 {
@@ -36,7 +36,7 @@ pub(crate) fn status_of(table: &FileTable, path: &[u8]) -> Status
 }
 
 // There is a file under a path.
-pub(crate) fn is_there(table: &FileTable, path: &[u8]) -> bool
+pub(crate) fn is_there(table: &SharedTable, path: &[u8]) -> bool
     requires { bytes_eq path.now lines_path ≡ false }
     ensures { is_missing (found_at path.now table.now) ≡ not result }
 {

@@ -1,8 +1,7 @@
 -- What is compared of two units and their files.
-use Rattle.std.proofs.Common.{◌≡◌, ℕ, ◌+◌, ◌<◌, List, length, Option, Some, slice_get, sym, ap, subst, ◌∙◌, inl, inr, arith}
+use Rattle.std.proofs.Common.{◌≡◌, ℕ, ◌+◌, ◌<◌, List, length, Some, slice_get, ap, subst, ◌∙◌, inl, inr, arith}
 use Rattle.std.specs.Option.{option_map}
 use Rattle.std.proofs.lemmas.Bool.{cases_lt}
-use Rattle.std.proofs.lemmas.Option.{same_Some}
 use Rattle.cs_base.specs.Token.{Token}
 use Rattle.analysis.specs.Analysis.{UnitAnalysis}
 use Rattle.analysis.specs.Below.scope_bind.Bound.{Bound}
@@ -11,10 +10,6 @@ use Rattle.template_meaning.specs.Below.reordered.Reordered.{plain}
 use Rattle.analysis.specs.Below.c99_tree.Tree.{Node}
 use Rattle.template_meaning.specs.Compared.{AreNamed, ArePlaces, AreWithin, IsAlikeAt, IsComparedUnit, IsPlaceOf}
 use Rattle.template_meaning.specs.Matched.{EachHas, IsTurnedTree}
-
-pub unit-read : {X : Type 0} (f : UnitAnalysis → X) (units : List UnitAnalysis) (n : ℕ) (u : UnitAnalysis) (x : X) → option_map f (slice_get units n) ≡ Some x
-    → slice_get units n ≡ Some u → x ≡ f u
-unit-read f units n u x read at = same_Some x (f u) (sym read ∙ ap (option_map f) at)
 
 pub below-next : (P : ℕ → Type 0) (k j : ℕ) → j < k + 1 → ((i : ℕ) → i < k → P i) → P k → P j
 below-next P k j below before here = elim (cases_lt j k) [

@@ -14,7 +14,7 @@ use crate::begins::Begins;
 use crate::places::{are_places, places_of};
 use crate::second::is_pseudo;
 use crate::trees::{have_items, turned_tokens};
-use analysis::{Analysis, Bound, KeptFile, Name};
+use analysis::{Analysis, Bound, KeptFile, Name, UnitAt};
 use cs_base::{Memory, Tok};
 use std::alloc::Global;
 use template_rules::{Functions, list_begins};
@@ -91,52 +91,38 @@ fn is_name_at(old: &Bound, new: &Bound, places: &[u32], k: u32, at: u32) -> bool
 }
 
 // Token `k` is the token at its place, and denotes there what it denoted.
-fn is_alike_at(a: &Analysis, b: &Analysis, unit: u32, places: &[u32], k: u32, at: u32) -> bool
-    requires first { 1 ≤ unit }
-    requires last { unit ≤ length a.now.value.units }
-    requires there { unit ≤ length b.now.value.units }
-    ensures { IsTrue result → (u v : UnitAnalysis) → slice_get a.now.value.units (unit - 1) ≡ Some u
-        → slice_get b.now.value.units (unit - 1) ≡ Some v → IsAlikeAt u v places.now k at }
+fn is_alike_at(u: &UnitAt<'_>, v: &UnitAt<'_>, places: &[u32], k: u32, at: u32) -> bool
+    ensures { IsTrue result → IsAlikeAt u.now v.now places.now k at }
 {
-    let had = a.text(unit);
-    let has = b.text(unit);
+    let had = u.text();
+    let has = v.text();
     let old = had.toks();
     let new = has.toks();
     if !is_same_tok(new, at, old, k) {
         return false;
     }
-    let names = a.bound(unit);
-    let others = b.bound(unit);
+    let names = u.bound();
+    let others = v.bound();
     is_name_at(names, others, places, k, at)
 }
 
 // So it is with a token, if it has a place.
-fn is_alike(a: &Analysis, b: &Analysis, unit: u32, places: &[u32], k: u32) -> bool
-    requires first { 1 ≤ unit }
-    requires last { unit ≤ length a.now.value.units }
-    requires there { unit ≤ length b.now.value.units }
-    ensures { IsTrue result → (u v : UnitAnalysis) → slice_get a.now.value.units (unit - 1) ≡ Some u
-        → slice_get b.now.value.units (unit - 1) ≡ Some v
-        → (at : ℕ) → slice_get places.now k ≡ Some at → IsAlikeAt u v places.now k at }
+fn is_alike(u: &UnitAt<'_>, v: &UnitAt<'_>, places: &[u32], k: u32) -> bool
+    ensures { IsTrue result → (at : ℕ) → slice_get places.now k ≡ Some at → IsAlikeAt u.now v.now places.now k at }
 {
     match places.get(k as usize) {
-        Some(at) => is_alike_at(a, b, unit, places, k, *at),
+        Some(at) => is_alike_at(u, v, places, k, *at),
         None => false,
     }
 }
 
 // So it is with each token that has a place.
-fn are_alike(a: &Analysis, b: &Analysis, unit: u32, places: &[u32]) -> bool
-    requires first { 1 ≤ unit }
-    requires last { unit ≤ length a.now.value.units }
-    requires there { unit ≤ length b.now.value.units }
-    requires few { length places.now ≤ 4294967295 }
-    ensures { IsTrue result → (u v : UnitAnalysis) → slice_get a.now.value.units (unit - 1) ≡ Some u
-        → slice_get b.now.value.units (unit - 1) ≡ Some v
-        → (k at : ℕ) → slice_get places.now k ≡ Some at → IsAlikeAt u v places.now k at }
+fn are_alike(u: &UnitAt<'_>, v: &UnitAt<'_>, places: &[u32]) -> bool
+    requires { length places.now ≤ 4294967295 }
+    ensures { IsTrue result → (k at : ℕ) → slice_get places.now k ≡ Some at → IsAlikeAt u.now v.now places.now k at }
 {
     for k in 0..places.len() as u32 {
-        if !is_alike(a, b, unit, places, k) {
+        if !is_alike(u, v, places, k) {
             return false;
         }
     }
@@ -176,22 +162,17 @@ fn is_compared_by(
     alloc: Global,
     order: &[usize],
     begins: &Begins,
-    a: &Analysis,
-    b: &Analysis,
-    unit: u32,
+    first: &UnitAt<'_>,
+    second: &UnitAt<'_>,
 ) -> Result<bool, Memory>
-    requires first { 1 ≤ unit }
-    requires last { unit ≤ length a.now.value.units }
-    requires there { unit ≤ length b.now.value.units }
-    ensures { IfOk result (λ same. IsTrue same → (u v : UnitAnalysis) → slice_get a.now.value.units (unit - 1) ≡ Some u
-        → slice_get b.now.value.units (unit - 1) ≡ Some v
-        → (perm : List ℕ) × (places : List ℕ) × IsComparedUnit order.now begins.now perm places u v) }
+    ensures { IfOk result (λ same. IsTrue same
+        → (perm : List ℕ) × (places : List ℕ) × IsComparedUnit order.now begins.now perm places first.now second.now) }
 {
-    let old = a.tree(alloc, unit)?;
+    let old = first.tree(alloc)?;
     if !have_items(order.len(), begins, &old) {
         return Ok(false);
     }
-    let new = b.tree(alloc, unit)?;
+    let new = second.tree(alloc)?;
     let found = turned_tokens(alloc, order, begins, &old, &new)?;
     let Some(perm) = found else {
         return Ok(false);
@@ -205,35 +186,31 @@ fn is_compared_by(
     if !are_places(numbers, all) {
         return Ok(false);
     }
-    if !are_alike(a, b, unit, all) {
+    if !are_alike(first, second, all) {
         return Ok(false);
     }
-    Ok(are_named(a, b, unit))
+    Ok(are_named(first, second))
 }
 
 // The names of both stand among their tokens, which are as many.
-fn are_named(a: &Analysis, b: &Analysis, unit: u32) -> bool
-    requires first { 1 ≤ unit }
-    requires last { unit ≤ length a.now.value.units }
-    requires there { unit ≤ length b.now.value.units }
-    ensures { IsTrue result → (u v : UnitAnalysis) → slice_get a.now.value.units (unit - 1) ≡ Some u
-        → slice_get b.now.value.units (unit - 1) ≡ Some v → AreNamed u v }
+fn are_named(u: &UnitAt<'_>, v: &UnitAt<'_>) -> bool
+    ensures { IsTrue result → AreNamed u.now v.now }
 {
-    let had = a.text(unit);
-    let has = b.text(unit);
+    let had = u.text();
+    let has = v.text();
     let old = had.toks();
     let new = has.toks();
     let count = old.len();
     if new.len() != count {
         return false;
     }
-    let names = a.bound(unit);
+    let names = u.bound();
     let own = names.names();
     let within = are_within(count, own);
     if !within {
         return false;
     }
-    let others = b.bound(unit);
+    let others = v.bound();
     let behind = others.names();
     are_within(count, behind)
 }
@@ -254,12 +231,14 @@ fn is_compared(
 {
     let a = functions.analysis();
     let lists = list_begins(alloc, functions, unit)?;
-    let count = a.text(unit).toks().len();
+    let first = a.unit(alloc, unit)?;
+    let second = b.unit(alloc, unit)?;
+    let count = first.text().toks().len();
     let found = Begins::of(alloc, lists, count)?;
     let Some(begins) = found else {
         return Ok(false);
     };
-    let same = is_compared_by(alloc, order, &begins, a, b, unit)?;
+    let same = is_compared_by(alloc, order, &begins, &first, &second)?;
     Ok(same)
 }
 

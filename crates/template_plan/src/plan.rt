@@ -17,7 +17,7 @@ ghost use Rattle.template_rules.specs.Template.{order_refusal, refusal_at, IsCla
 
 use crate::comparing::are_compared;
 use crate::second::second;
-use analysis::{Analysis, made_files_are_pseudo, paths_stand_once, tables_are_found};
+use analysis::{AllUnits, Analysis, made_files_are_pseudo, paths_stand_once, tables_are_found};
 use cs_base::{Cause, Edits, Memory, Part};
 use list_cuts::is_order;
 use offences::{Offence, PlanFault, Refusal, refused};
@@ -92,7 +92,23 @@ fn plan_class(
     ensures answer { GivesOne (λ edits. edits) refusal_of result (IsOrdered a.now.value members.now order.now) }
     ensures kept { IfOk result (λ edits. IsKept a.now.value members.now order.now) }
 {
-    let functions = named_functions(alloc, a, members, number)?;
+    let all = AllUnits::of(alloc, a)?;
+    plan_over(alloc, &all, members, number, order)
+}
+
+// The same, where all units of the analysis are at hand.
+fn plan_over(
+    alloc: Global,
+    all: &AllUnits<'_>,
+    members: &[Part],
+    number: u32,
+    order: &[usize],
+) -> Result<Edits, PlanFault>
+    requires { IsClass all.now members.now number }
+    ensures answer { GivesOne (λ edits. edits) refusal_of result (IsOrdered all.now.value members.now order.now) }
+    ensures kept { IfOk result (λ edits. IsKept all.now.value members.now order.now) }
+{
+    let functions = named_functions(alloc, all, members, number)?;
     plan_ordered(alloc, &functions, order)
 }
 

@@ -17,6 +17,7 @@ pub mod ToldLemmas
 pub mod LineOddsLemmas
 pub mod PlaceLemmas
 pub mod WholeLemmas
+pub mod KnownLemmas
 pub mod CalleeLemmas
 pub mod ParameterLemmas
 pub mod NameLemmas

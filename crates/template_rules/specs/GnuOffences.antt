@@ -1,6 +1,6 @@
 -- What units of GNU C say against a new order of items (this project's, over the manual of gcc): attributes that may count the
--- parameters of a function, names and texts by which the assembler may have it, and blocks inside its lists.
-use Rattle.std.specs.Prelude.{ℕ, ◌-◌, ◌≡◌, ◌&&◌, if◌then◌else◌, Bool, Option, Some, List, [], ◌∷◌, ◌++◌, drop, take, slice_get}
+-- parameters of a function, names and texts by which the assembler may have it, and blocks and calls that declare inside its lists.
+use Rattle.std.specs.Prelude.{ℕ, ◌-◌, ◌==◌, ◌≡◌, ◌&&◌, not, if◌then◌else◌, Bool, Option, Some, List, [], ◌∷◌, ◌++◌, drop, take, slice_get}
 use Rattle.std.specs.List.{flat_map, list_any}
 use Rattle.std.specs.Option.{option_map_or}
 use Rattle.cs_base.specs.declared.causes.Cause.TheVariants as cause
@@ -72,6 +72,17 @@ is_in_own members toks names k l = names_function members toks names l.name && i
 abbrev pub block_place : List Part → List Token → List Name → List NameList → ℕ → List Pos
 block_place members toks names lists k = if list_any (is_in_own members toks names k) lists then brought_place toks k else []
 
+-- ---- DeclarationInArgument, at calls that declare
+
+-- A use of what no other token names: its call is the first that is taken to declare the function (ISO/IEC 9899:1990, 6.3.2.2).
+-- In another order another call may be the first, or a name behind it would be in front of it.
+abbrev pub declares_by_call : Name → Bool
+declares_by_call n = not n.declares && (n.entity == n.index)
+
+-- where such a name was brought, if it stands inside one of these lists
+abbrev pub first_call_place : List Part → List Token → List Name → List NameList → Name → List Pos
+first_call_place members toks names lists n = if declares_by_call n then block_place members toks names lists n.index else []
+
 -- ---- units
 
 -- what the tree of a unit tells
@@ -80,7 +91,8 @@ told_offences members words toks bound listed =
     standing cause.CountedParameter (flat_map (told_place members toks bound.names) listed.counts)
     ++ (standing cause.AssemblerText (flat_map (told_place members toks bound.names) listed.symbols)
     ++ (standing cause.AssemblerText (flat_map (text_place words toks) listed.texts)
-    ++ standing cause.DeclarationInArgument (flat_map (block_place members toks bound.names (bound.declarators ++ bound.calls)) listed.begins)))
+    ++ (standing cause.DeclarationInArgument (flat_map (block_place members toks bound.names (bound.declarators ++ bound.calls)) listed.begins)
+    ++ standing cause.DeclarationInArgument (flat_map (first_call_place members toks bound.names (bound.declarators ++ bound.calls)) bound.names))))
 
 abbrev pub gnu_unit : List Part → List (List ℕ) → UnitAnalysis → List Offence
 gnu_unit members words u =

@@ -1,18 +1,17 @@
 // The functions that a class names.
-ghost use Rattle.std.specs.Prelude.{◌≡◌, ◌==◌, ◌||◌, ◌&&◌, ◌⊎◌, ◌-◌, ◌≤◌, ℕ, [], Some, IfOk, OnOk, length, slice_get};
+ghost use Rattle.std.specs.Prelude.{◌≡◌, ◌==◌, ◌||◌, ◌&&◌, ◌⊎◌, ℕ, [], IfOk, OnOk};
 ghost use Rattle.std.specs.List.{list_any};
-ghost use Rattle.analysis.specs.Analysis.{UnitAnalysis};
 ghost use Rattle.analysis.specs.Below.scope_bind.Bound.{is_function_name};
 ghost use Rattle.offences.specs.Class.{class_over, IsClass};
 ghost use Rattle.template_rules.specs.Functions.{holds_at, is_named, has_function, AreFunctionsOf};
-ghost use Rattle.template_rules.specs.Units.{AreOfTree, AreUnits, IsUnitAt, has_some};
+ghost use Rattle.template_rules.specs.Units.{AreOfTree, AreUnits, IsUnit, has_some};
 
 use crate::body_lists::body_lists;
 use crate::covers::Covers;
 use crate::run_list::Runs;
 use crate::unit_functions::{UnitFunctions, by_place, has, push_named};
 use crate::unit_parameters::UnitParameters;
-use analysis::{Analysis, Name};
+use analysis::{AllUnits, Analysis, Name, UnitAt};
 use c_types::{EntityKind, Indices, ParameterList, parameter_lists};
 use cs_base::{Memory, Part, Tok};
 use offences::{Class, holds_member};
@@ -126,19 +125,15 @@ fn functions_of(
 // whose names bodies begin with.
 fn lists_of(
     alloc: Global,
-    a: &Analysis,
-    unit: u32,
+    unit: &UnitAt<'_>,
     entities: &[u32],
 ) -> Result<(Vec<ParameterList>, Vec<u32>), Memory>
-    requires first { 1 ≤ unit }
-    requires last { unit ≤ length a.now.value.units }
-    ensures { IfOk result (λ r. (entities.now ≡ [])
-        ⊎ ((u : UnitAnalysis) → slice_get a.now.value.units (unit - 1) ≡ Some u → AreOfTree u r.0.items r.1.items)) }
+    ensures { IfOk result (λ r. (entities.now ≡ []) ⊎ AreOfTree unit.now r.0.items r.1.items) }
 {
     if entities.is_empty() {
         return Ok((Vec::new(alloc), Vec::new(alloc)));
     }
-    let tree = a.tree(alloc, unit)?;
+    let tree = unit.tree(alloc)?;
     let lists = parameter_lists(alloc, &tree)?;
     let ends = body_lists(alloc, &tree)?;
     Ok((lists, ends))
@@ -150,19 +145,17 @@ fn unit_at<'a>(
     a: &'a Analysis,
     members: &'a [Part],
     number: u32,
-    unit: u32,
+    unit: &'a UnitAt<'_>,
 ) -> Result<UnitFunctions<'a>, Memory>
-    requires class { IsClass a.now members.now number }
-    requires first { 1 ≤ unit }
-    requires last { unit ≤ length a.now.value.units }
+    requires { IsClass a.now members.now number }
     ensures class { IfOk result (λ f. f.class ≡ class_over a.now members.now) }
-    ensures unit { IfOk result (IsUnitAt a.now.value.units (unit - 1)) }
+    ensures unit { IfOk result (IsUnit unit.now) }
 {
     let class = Class::new(a, members, number);
-    let text = a.text(unit);
-    let bound = a.bound(unit);
+    let text = unit.text();
+    let bound = unit.bound();
     let entities = functions_of(alloc, &class, text.toks(), bound.names())?;
-    let (parameters, ends) = lists_of(alloc, a, unit, entities.as_slice())?;
+    let (parameters, ends) = lists_of(alloc, unit, entities.as_slice())?;
     let lists = UnitParameters::new(parameters);
     let mut found = Vec::new(alloc);
     push_named(&mut found, bound, entities.as_slice(), bound.declarators())?;
@@ -187,17 +180,19 @@ fn unit_at<'a>(
 /// The functions that a class names, given by its members and its number.
 pub fn named_functions<'a>(
     alloc: Global,
-    a: &'a Analysis,
+    all: &'a AllUnits<'_>,
     members: &'a [Part],
     number: u32,
 ) -> Result<Functions<'a>, Memory>
-    requires { IsClass a.now members.now number }
-    ensures answer { IfOk result (λ f. f ≡ class_over a.now members.now) }
+    requires { IsClass all.now members.now number }
+    ensures answer { IfOk result (λ f. f ≡ class_over all.now members.now) }
 {
+    let a = all.analysis();
+    let read = all.units();
     let class = Class::new(a, members, number);
     let mut units = Vec::new(alloc);
-    for unit in 0..a.units() {
-        let found = unit_at(alloc, a, members, number, unit + 1)?;
+    for k in 0..read.len() {
+        let found = unit_at(alloc, a, members, number, &read[k])?;
         units.push(found)?;
     }
     Ok(Functions { class, units })

@@ -3,13 +3,13 @@ ghost use Rattle.std.specs.Prelude.{◌≡◌, ◌≤◌, ◌++◌, IfOk, length
 ghost use Rattle.std.specs.List.{flat_map, list_any};
 ghost use Rattle.cs_base.specs.declared.causes.Cause.TheVariants as cause;
 ghost use Rattle.offences.specs.First.{standing, FirstThen};
-ghost use Rattle.template_rules.specs.GnuOffences.{block_place, gnu_offences, is_in_own, told_offences, told_place, IsAgainstUnit};
+ghost use Rattle.template_rules.specs.GnuOffences.{block_place, declares_by_call, first_call_place, gnu_offences, is_in_own, told_offences, told_place, IsAgainstUnit};
 ghost use Rattle.template_rules.specs.ScopeOffences.{is_inside};
 
 use crate::functions::Functions;
 use crate::gnu_texts::{at_brought, in_texts, spellings};
 use crate::unit_functions::{UnitFunctions, names_function};
-use analysis::Analysis;
+use analysis::{Analysis, Name};
 use c_types::List;
 use cs_base::{Cause, Memory};
 use gnu_lists::{Counted, Lists, lists_of};
@@ -115,6 +115,49 @@ fn at_blocks(
     now
 }
 
+// Whether a use is of what no other token names: its call is the first that declares the function.
+fn declares_by_call(name: Name) -> bool
+    ensures { result ≡ declares_by_call name }
+{
+    !name.declares && name.entity == name.index
+}
+
+// `DeclarationInArgument` at such a name that stands inside a list of the functions.
+fn at_first_call(
+    a: &Analysis,
+    unit: &UnitFunctions<'_>,
+    name: Name,
+    first: Option<Offence>,
+) -> Option<Offence>
+    ensures { FirstThen a.now.value.table (standing cause.DeclarationInArgument
+        (first_call_place unit.now.class.members unit.now.text.now.toks unit.now.bound.now.names
+        (unit.now.bound.now.declarators ++ unit.now.bound.now.calls) name)) first result }
+{
+    if declares_by_call(name) {
+        at_block(a, unit, name.index, first)
+    } else {
+        first
+    }
+}
+
+// The same for each of these names.
+fn at_first_calls(
+    a: &Analysis,
+    unit: &UnitFunctions<'_>,
+    names: &[Name],
+    first: Option<Offence>,
+) -> Option<Offence>
+    ensures { FirstThen a.now.value.table (standing cause.DeclarationInArgument
+        (flat_map (first_call_place unit.now.class.members unit.now.text.now.toks unit.now.bound.now.names
+        (unit.now.bound.now.declarators ++ unit.now.bound.now.calls)) names.now)) first result }
+{
+    let mut now = first;
+    for name in names {
+        now = at_first_call(a, unit, *name, now);
+    }
+    now
+}
+
 // All of them in a unit whose tree tells these lists.
 fn in_lists(
     alloc: Global,
@@ -130,7 +173,8 @@ fn in_lists(
     let counted = at_each(a, unit, lists.counts(), Cause::CountedParameter, first);
     let named = at_each(a, unit, lists.symbols(), Cause::AssemblerText, counted);
     let told = in_texts(alloc, a, words, unit.text.toks(), lists.texts(), named)?;
-    Ok(at_blocks(a, unit, lists.begins(), told))
+    let begun = at_blocks(a, unit, lists.begins(), told);
+    Ok(at_first_calls(a, unit, unit.bound.names(), begun))
 }
 
 // The same in any unit, whose tree is read again: none where it is not of GNU C.
@@ -152,14 +196,16 @@ fn in_unit(
     let units = functions.units();
     let k = number as usize - 1;
     let unit = &units[k];
-    let tree = a.tree(alloc, number)?;
+    let read = a.unit(alloc, number)?;
+    let tree = read.tree(alloc)?;
     let lists = lists_of(alloc, unit.text.toks(), &tree)?;
     in_lists(alloc, a, unit, words, &lists, first)
 }
 
 /// In each unit of GNU C: `CountedParameter` at what may count parameters in attributes of a declaration of the functions,
 /// `AssemblerText` at their names for the assembler and where texts for it begin that have one of their names, and
-/// `DeclarationInArgument` at the `{` of each block inside one of their lists.
+/// `DeclarationInArgument` at the `{` of each block inside one of their lists, and at each name there of which the call is the
+/// first that declares it.
 pub fn at_gnu_units(
     alloc: Global,
     functions: &Functions<'_>,

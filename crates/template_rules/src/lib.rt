@@ -24,6 +24,7 @@ mod gnu_texts;
 mod gnu_units;
 mod held_lists;
 mod item_units;
+mod known_lists;
 mod list_insides;
 mod list_macros;
 mod list_marks;

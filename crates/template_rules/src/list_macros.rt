@@ -7,11 +7,13 @@ ghost use Rattle.list_cuts.specs.Cuts.{numbers};
 ghost use Rattle.offences.specs.First.{standing, FirstThen};
 ghost use Rattle.template_rules.specs.Lists.{each_mark, some_mark};
 ghost use Rattle.template_rules.specs.MacroOffences.{is_direct, is_direct_at, is_pos, is_same, are_same, is_same_list, is_item, is_mark_in, is_list_at, is_list_in, is_list_as, is_list_through, is_list_for, is_mark_everywhere, macro_place};
-ghost use Rattle.template_rules.specs.Asking.{asks, is_of_run, AreWithin};
+ghost use Rattle.template_rules.specs.Asking.{asks, is_of_run, AreWithin, IsKnown, IsServed};
+ghost use Rattle.template_rules.specs.declared.list_macros.Asked.TheVariants as asked;
 ghost use Rattle.template_rules.specs.ListPlaces.{name_number};
 
 use crate::functions::Functions;
 use crate::item_units::{ItemUnits, is_between, is_item};
+use crate::known_lists::{Known, is_known};
 use crate::places::{at_token, origin_of};
 use crate::run_list::Runs;
 use crate::unit_functions::{
@@ -72,7 +74,8 @@ fn are_same(toks: &[Tok], others: &[Tok], indices: &[u32], other_indices: &[u32]
     true
 }
 
-fn is_same_list(toks: &[Tok], others: &[Tok], list: &List, other: &List) -> bool
+/// Whether the name, the parentheses and the commas of two lists stand at the same positions.
+pub(crate) fn is_same_list(toks: &[Tok], others: &[Tok], list: &List, other: &List) -> bool
     ensures { result ≡ is_same_list toks.now others.now list.now other.now }
 {
     is_same(origin_of(toks, list.name), origin_of(others, other.name))
@@ -455,6 +458,26 @@ fn is_of_run(reached: &Runs<'_>, number: usize, list: &List) -> bool
                 && reached.run_of(list.close) == number))
 }
 
+// Whether each unit has for all marks of a list, where it may be known.
+fn is_served(
+    functions: &Functions<'_>,
+    toks: &[Tok],
+    list: &List,
+    item: Reached,
+    near: ItemUnits,
+    known: &Known<'_>,
+) -> bool
+    requires near { AreWithin functions.now.analysis.value.units near }
+    requires known { IsKnown functions.now toks.now known.now }
+    ensures { result ≡ asks asked.All
+        (λ k. is_list_for functions.now.members functions.now.analysis.value toks.now list.now k item) list.now }
+{
+    if is_known(toks, known, list, item) {
+        return true;
+    }
+    is_list_near(functions, toks, list, Asked::All, item, near)
+}
+
 // The same for each mark of a list, where all were put out for this run: this asks once for all of them.
 fn is_everywhere_at(
     functions: &Functions<'_>,
@@ -463,14 +486,16 @@ fn is_everywhere_at(
     list: &List,
     number: usize,
     near: ItemUnits,
+    known: &Known<'_>,
 ) -> bool
     requires run { each_mark (is_of_run reached.now number) list.now ≡ true }
     requires near { AreWithin functions.now.analysis.value.units near }
+    requires known { IsKnown functions.now toks.now known.now }
     ensures { result ≡ each_mark
         (is_mark_everywhere functions.now.members functions.now.analysis.value toks.now reached.now list.now) list.now }
 {
     match reached.item_at(number) {
-        Some(item) => is_list_near(functions, toks, list, Asked::All, item, near),
+        Some(item) => is_served(functions, toks, list, item, near, known),
         None => false,
     }
 }
@@ -482,33 +507,85 @@ fn is_everywhere(
     reached: &Runs<'_>,
     list: &List,
     near: ItemUnits,
+    known: &Known<'_>,
 ) -> bool
-    requires { AreWithin functions.now.analysis.value.units near }
+    requires near { AreWithin functions.now.analysis.value.units near }
+    requires known { IsKnown functions.now toks.now known.now }
     ensures { result ≡ each_mark
         (is_mark_everywhere functions.now.members functions.now.analysis.value toks.now reached.now list.now) list.now }
 {
     let number = reached.run_of(list.name);
     if is_of_run(reached, number, list) {
-        is_everywhere_at(functions, toks, reached, list, number, near)
+        is_everywhere_at(functions, toks, reached, list, number, near, known)
     } else {
         are_marks_everywhere(functions, toks, reached, list)
     }
 }
 
-/// `InMacro` at a list, where it is known between which units an item was reached.
+// What is known of such a list once it was asked.
+fn known_for<'a>(
+    functions: &Functions<'_>,
+    toks: &[Tok],
+    list: &'a List,
+    item: Reached,
+    near: ItemUnits,
+    known: Known<'a>,
+) -> Known<'a>
+    requires near { AreWithin functions.now.analysis.value.units near }
+    requires known { IsKnown functions.now toks.now known }
+    ensures { IsKnown functions.now toks.now result }
+{
+    if is_served(functions, toks, list, item, near, &known) {
+        Known {
+            list: Some(list),
+            item,
+        }
+    } else {
+        known
+    }
+}
+
+/// What is known once a list of a unit is asked, if it is one of a function that the class names and no macro has put a mark of it in.
+pub(crate) fn known_at<'a>(
+    functions: &Functions<'_>,
+    unit: &UnitFunctions<'_>,
+    list: &'a List,
+    near: ItemUnits,
+    known: Known<'a>,
+) -> Known<'a>
+    requires near { AreWithin functions.now.analysis.value.units near }
+    requires known { IsKnown functions.now unit.now.text.now.toks known }
+    ensures { IsKnown functions.now unit.now.text.now.toks result }
+{
+    let toks = unit.text.toks();
+    if !names_function(unit, list.name) {
+        return known;
+    }
+    if !is_direct(toks, list) {
+        return known;
+    }
+    match unit.runs.item_of(list.name) {
+        Some(item) => known_for(functions, toks, list, item, near, known),
+        None => known,
+    }
+}
+
+/// `InMacro` at a list, where it is known between which units an item was reached, and what of a list before it.
 pub(crate) fn macro_at(
     functions: &Functions<'_>,
     toks: &[Tok],
     reached: &Runs<'_>,
     list: &List,
     near: ItemUnits,
+    known: &Known<'_>,
     first: Option<Offence>,
 ) -> Option<Offence>
-    requires { AreWithin functions.now.analysis.value.units near }
+    requires near { AreWithin functions.now.analysis.value.units near }
+    requires known { IsKnown functions.now toks.now known.now }
     ensures { FirstThen functions.now.analysis.value.table (standing cause.InMacro
         (macro_place functions.now.members functions.now.analysis.value toks.now reached.now list.now)) first result }
 {
-    if is_direct(toks, list) && is_everywhere(functions, toks, reached, list, near) {
+    if is_direct(toks, list) && is_everywhere(functions, toks, reached, list, near, known) {
         first
     } else {
         at_token(functions.analysis(), toks, list.name, Cause::InMacro, first)

@@ -2,7 +2,7 @@
 ghost use Rattle.std.specs.Prelude.{◌≡◌, IfOk};
 ghost use Rattle.std.specs.List.{flat_map};
 ghost use Rattle.offences.specs.First.{FirstThen};
-ghost use Rattle.template_rules.specs.Asking.{AreWithin};
+ghost use Rattle.template_rules.specs.Asking.{AreWithin, IsKnown};
 ghost use Rattle.template_rules.specs.LineOffences.{odd_positions};
 ghost use Rattle.template_rules.specs.OddLines.{AreOdd};
 ghost use Rattle.template_rules.specs.Offences.{list_offences, declarator_offences, call_offences, all_lists};
@@ -11,7 +11,8 @@ use crate::body_lists::body_at;
 use crate::dependences::dependences_at;
 use crate::functions::Functions;
 use crate::item_units::{ItemUnits, all_units, units_at};
-use crate::list_macros::macro_at;
+use crate::known_lists::{Known, nothing_known};
+use crate::list_macros::{known_at, macro_at};
 use crate::odd_lines::{OddLines, odd_lines};
 use crate::odd_tokens::odds_at;
 use crate::unit_functions::{UnitFunctions, names_function};
@@ -27,14 +28,24 @@ fn list_at(
     unit: &UnitFunctions<'_>,
     list: &List,
     near: ItemUnits,
+    known: &Known<'_>,
     first: Option<Offence>,
 ) -> Option<Offence>
+    requires known { IsKnown functions.now unit.now.text.now.toks known.now }
     requires near { AreWithin functions.now.analysis.value.units near }
     requires odds { AreOdd functions.now.analysis.value.table (odd_positions functions.now.analysis.value.table) odds.now }
     ensures { FirstThen functions.now.analysis.value.table
         (list_offences functions.now.members functions.now.analysis.value (odd_positions functions.now.analysis.value.table) unit.now.text.now list.now) first result }
 {
-    let named = macro_at(functions, unit.text.toks(), &unit.runs, list, near, first);
+    let named = macro_at(
+        functions,
+        unit.text.toks(),
+        &unit.runs,
+        list,
+        near,
+        known,
+        first,
+    );
     odds_at(functions.analysis(), odds, unit, list, named)
 }
 
@@ -45,16 +56,18 @@ fn declarator_at(
     unit: &UnitFunctions<'_>,
     list: &List,
     near: ItemUnits,
+    known: &Known<'_>,
     first: Option<Offence>,
 ) -> Option<Offence>
     requires class { unit.now.class ≡ functions.now }
+    requires known { IsKnown functions.now unit.now.text.now.toks known.now }
     requires near { AreWithin functions.now.analysis.value.units near }
     requires odds { AreOdd functions.now.analysis.value.table (odd_positions functions.now.analysis.value.table) odds.now }
     ensures { FirstThen functions.now.analysis.value.table (declarator_offences functions.now.members
         functions.now.analysis.value (odd_positions functions.now.analysis.value.table) unit.now.text.now unit.now.bound.now unit.now.lists list.now) first result }
 {
     if names_function(unit, list.name) {
-        let named = list_at(functions, odds, unit, list, near, first);
+        let named = list_at(functions, odds, unit, list, near, known, first);
         dependences_at(
             functions.analysis(),
             unit.text.toks(),
@@ -77,16 +90,18 @@ fn call_at(
     ends: &[u32],
     list: &List,
     near: ItemUnits,
+    known: &Known<'_>,
     first: Option<Offence>,
 ) -> Option<Offence>
     requires class { unit.now.class ≡ functions.now }
+    requires known { IsKnown functions.now unit.now.text.now.toks known.now }
     requires near { AreWithin functions.now.analysis.value.units near }
     requires odds { AreOdd functions.now.analysis.value.table (odd_positions functions.now.analysis.value.table) odds.now }
     ensures { FirstThen functions.now.analysis.value.table (call_offences functions.now.members
         functions.now.analysis.value (odd_positions functions.now.analysis.value.table) unit.now.text.now unit.now.bound.now ends.now list.now) first result }
 {
     if names_function(unit, list.name) {
-        let named = list_at(functions, odds, unit, list, near, first);
+        let named = list_at(functions, odds, unit, list, near, known, first);
         body_at(functions.analysis(), unit.text.toks(), ends, list, named)
     } else {
         first
@@ -107,9 +122,11 @@ fn at_declarators(
 {
     let mut now = first;
     let mut near = all_units(functions);
+    let mut known = nothing_known();
     for list in all {
         near = units_at(functions, unit, list, near);
-        now = declarator_at(functions, odds, unit, list, near, now);
+        known = known_at(functions, unit, list, near, known);
+        now = declarator_at(functions, odds, unit, list, near, &known, now);
     }
     now
 }
@@ -129,9 +146,11 @@ fn at_calls(
 {
     let mut now = first;
     let mut near = all_units(functions);
+    let mut known = nothing_known();
     for list in all {
         near = units_at(functions, unit, list, near);
-        now = call_at(functions, odds, unit, ends, list, near, now);
+        known = known_at(functions, unit, list, near, known);
+        now = call_at(functions, odds, unit, ends, list, near, &known, now);
     }
     now
 }

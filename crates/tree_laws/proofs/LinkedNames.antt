@@ -20,10 +20,10 @@ use Rattle.scope_bind.specs.declared.bound.Name.{Name}
 use Rattle.tree_laws.specs.BoundNames.{Binds, OneLinkedName}
 use Rattle.tree_laws.proofs.Unnamed.{found_named}
 use Rattle.tree_laws.proofs.Lookups.{In, found_in, found_passes}
-use Rattle.tree_laws.proofs.Renaming.{Good, Kept, IsLinked}
+use Rattle.tree_laws.proofs.Renaming.{noted_so, Good, Kept, IsLinked}
 use Rattle.tree_laws.proofs.RenamedWalk.{no_fault, Follows, walked_same}
 use Rattle.tree_laws.proofs.InLists.{In as Among}
-use Rattle.tree_laws.proofs.HeldNames.{binding_is, occurrences_alike}
+use Rattle.tree_laws.proofs.HeldNames.{Has, binding_is, occurrences_alike}
 use Rattle.tree_laws.proofs.Adding.{count_in}
 use Rattle.tree_laws.proofs.EntityNames.{has_in, entity_is}
 use Rattle.tree_laws.proofs.OrderedNames.{facts_once}
@@ -105,15 +105,13 @@ all_kept toks tree b e =
     follows.kept
 
 module _ (toks : List Token) (facts : Facts) (once : (t : ℕ) → count_in t facts.occurrences ≤ 1) (kept : Kept toks facts) where
-  abbrev noted : Declaration → Occurrence
-  noted d = record { index = d.name_at; entity = d.entity; declares = true }
-
   -- the declaration that the token is the name of is the first of its entity
   of_itself : (k : ℕ) → (d : IsDeclared facts k) → d.of.entity ≡ k
   of_itself k d =
       let noted : entity_at (names_of facts) d.of.name_at ≡ Some d.of.entity =
       entity_is facts d.of.name_at d.of.entity (once d.of.name_at)
-      (has_in (noted d.of) facts.occurrences (among_in (noted d.of) facts.occurrences (kept.covered d.of d.among (found_named d.of.space ordinary (kept.linked d.of d.among d.links))))) in
+      (noted_so d.of facts.occurrences (λ i e. Has i e facts.occurrences) (λ o w. has_in o facts.occurrences (among_in o facts.occurrences w))
+      (kept.covered d.of d.among (found_named d.of.space ordinary (kept.linked d.of d.among d.links)))) in
       same_Some d.of.entity k (sym noted ∙ (ap (λ (i : ℕ). entity_at (names_of facts) i) d.at ∙ d.own))
 
   spelled_as : (j k : ℕ) → (d : IsDeclared facts k) → alike toks j k ≡ true → IsLinked toks j d.of

@@ -19,7 +19,7 @@ use Rattle.scope_bind.specs.Labels.{label_declaration, with_label, jump_to, with
 use Rattle.tree_laws.proofs.Unnamed.{found_named, member_apart}
 use Rattle.tree_laws.proofs.Lookups.{In}
 use Rattle.tree_laws.proofs.InLists.{In as AnElement, all_reversed, all_filtered}
-use Rattle.tree_laws.proofs.Renaming.{Good, Kept, occurrence, kept_silent, fault_back, fault_goes, fault_none, occurrence_back, occurrence_good, declaration_back, declaration_good, kept_declaration, kept_occurrence, joins_unlinked, unlinked_ordinary, found_again}
+use Rattle.tree_laws.proofs.Renaming.{IsNoted, Good, Kept, kept_silent, fault_back, fault_goes, fault_none, occurrence_back, occurrence_good, declaration_back, declaration_good, kept_declaration, kept_occurrence, joins_unlinked, unlinked_ordinary, found_again}
 
 no_some : {X : Type 0} (P : X → Type 0) (r : Option X) → is_some r ≡ false → IfSome r P
 no_some P None e = tt
@@ -239,7 +239,7 @@ module _ (a b : List Token) where
 
   -- these are names of what is declared already, and have no linkage
   abbrev Covered : Facts → Declaration → Type 0
-  Covered facts d = In (occurrence d.name_at d.entity true) facts.occurrences × (has_linkage d.linkage ≡ false)
+  Covered facts d = IsNoted d facts.occurrences × (has_linkage d.linkage ≡ false)
 
   module _ (owner : ℕ) where
     abbrev again : Declaration → Facts → Bool

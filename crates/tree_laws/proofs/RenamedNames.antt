@@ -42,7 +42,7 @@ entity_same n (Some d) l m e h =
     if_true (is_again n d) d.entity (linked_entity n l) (again_of n d e)
     ∙ sym (if_true (is_again n d) d.entity (linked_entity n m) (again_of n d e))
 
-relinked : (a : List Token) (i j : ℕ) (e : Declaration) → alike a i j ≡ true → IsLinked a i e → IsLinked a j e
+pub relinked : (a : List Token) (i j : ℕ) (e : Declaration) → alike a i j ≡ true → IsLinked a i e → IsLinked a j e
 relinked a i j e same l =
     let named : is_named a ordinary i e ≡ true = (and_parts (is_named a ordinary i e) (has_linkage e.linkage) l).0 in
     let spelled : alike a i e.name_at ≡ true = (and_parts (is_space e.space ordinary) (alike a i e.name_at) named).1 in

@@ -1,5 +1,5 @@
 -- What is true of the facts of a text without a fault, and of its renaming.
-use Rattle.std.proofs.Common.{ℕ, ◌≡◌, Bool, true, false, ◌&&◌, List, ◌∷◌, Option, None, Some, inl, inr, refl, sym, ap, subst, ◌∙◌}
+use Rattle.std.proofs.Common.{ℕ, ◌≡◌, Bool, true, false, ◌&&◌, List, ◌∷◌, Option, None, Some, ◌⊎◌, inl, inr, refl, sym, ap, subst, ◌∙◌}
 use Rattle.std.specs.Prelude.{IfSome}
 use Rattle.std.proofs.lemmas.Bool.{and_parts, false≢true}
 use Rattle.cs_base.specs.Token.{Token}
@@ -13,6 +13,20 @@ use Rattle.tree_laws.proofs.Lookups.{StandApart, In, found_passes, found_in, ali
 
 abbrev pub occurrence : ℕ → ℕ → Bool → Occurrence
 occurrence index entity declares = record { index = index; entity = entity; declares = declares }
+
+-- the name of the declaration is noted with its entity, as what declares it or as a use
+abbrev pub IsNoted : Declaration → List Occurrence → Type 0
+IsNoted d os = In (occurrence d.name_at d.entity true) os ⊎ In (occurrence d.name_at d.entity false) os
+
+pub noted_more : (d : Declaration) (o : Occurrence) (os : List Occurrence) → IsNoted d os → IsNoted d (o ∷ os)
+noted_more d o os (inl w) = inl (inr w)
+noted_more d o os (inr w) = inr (inr w)
+
+-- what is so of each name that is noted is so of it
+pub noted_so : (d : Declaration) (os : List Occurrence) (Q : ℕ → ℕ → Type 0) → ((o : Occurrence) → In o os → Q o.index o.entity) → IsNoted d os
+    → Q d.name_at d.entity
+noted_so d os Q all (inl w) = all (occurrence d.name_at d.entity true) w
+noted_so d os Q all (inr w) = all (occurrence d.name_at d.entity false) w
 
 -- nothing is wrong, each name is spelled as its entity in the new text, and no other token gets its spelling
 pub record Good (a b : List Token) (facts : Facts) : Type 0 where
@@ -34,7 +48,7 @@ unlinked_ordinary d e h = absurd (false≢true (sym e ∙ h))
 -- each declaration that has a name is an occurrence, one that has linkage is one of an ordinary identifier, and those of
 -- one spelling that have linkage are one entity
 pub record Kept (a : List Token) (facts : Facts) : Type 0 where
-  pub covered : (d : Declaration) → In d facts.declared → is_unnamed d.space ≡ false → In (occurrence d.name_at d.entity true) facts.occurrences
+  pub covered : (d : Declaration) → In d facts.declared → is_unnamed d.space ≡ false → IsNoted d facts.occurrences
   pub linked : (d : Declaration) → In d facts.declared → IsOrdinary d
   pub one : (i : ℕ) (d e : Declaration) → In d facts.declared → In e facts.declared → IsLinked a i d → IsLinked a i e → d.entity ≡ e.entity
 
@@ -69,12 +83,12 @@ fault_none false cause i facts e = refl
 
 module _ (a : List Token) where
   pub kept_occurrence : (i e : ℕ) (d : Bool) (facts : Facts) → Kept a facts → Kept a (with_occurrence i e d facts)
-  kept_occurrence i e d facts k = record { covered = λ x within u. inr (k.covered x within u); linked = k.linked; one = k.one }
+  kept_occurrence i e d facts k = record { covered = λ x within u. noted_more x (occurrence i e d) facts.occurrences (k.covered x within u); linked = k.linked; one = k.one }
 
   covered_step : (d x : Declaration) (facts : Facts) → Kept a facts → In x (d ∷ facts.declared) → is_unnamed x.space ≡ false
-      → In (occurrence x.name_at x.entity true) (occurrence d.name_at d.entity true ∷ facts.occurrences)
-  covered_step d x facts k (inl same) u = inl (ap (λ y. occurrence y.name_at y.entity true) same)
-  covered_step d x facts k (inr within) u = inr (k.covered x within u)
+      → IsNoted x (occurrence d.name_at d.entity true ∷ facts.occurrences)
+  covered_step d x facts k (inl same) u = inl (inl (ap (λ y. occurrence y.name_at y.entity true) same))
+  covered_step d x facts k (inr within) u = noted_more x (occurrence d.name_at d.entity true) facts.occurrences (k.covered x within u)
 
   linked_step : (d x : Declaration) (facts : Facts) → Kept a facts → IsOrdinary d → In x (d ∷ facts.declared) → IsOrdinary x
   linked_step d x facts k is (inl same) = subst IsOrdinary same is
@@ -100,14 +114,14 @@ module _ (a : List Token) where
     one = one_step d facts k joins;
   }
 
-  silent_step : (d x : Declaration) (facts : Facts) → Kept a facts → (is_unnamed d.space ≡ false → In (occurrence d.name_at d.entity true) facts.occurrences)
-      → In x (d ∷ facts.declared) → is_unnamed x.space ≡ false → In (occurrence x.name_at x.entity true) facts.occurrences
+  silent_step : (d x : Declaration) (facts : Facts) → Kept a facts → (is_unnamed d.space ≡ false → IsNoted d facts.occurrences)
+      → In x (d ∷ facts.declared) → is_unnamed x.space ≡ false → IsNoted x facts.occurrences
   silent_step d x facts k h (inl same) u =
-      subst (λ (y : Declaration). is_unnamed y.space ≡ false → In (occurrence y.name_at y.entity true) facts.occurrences) same h u
+      subst (λ (y : Declaration). is_unnamed y.space ≡ false → IsNoted y facts.occurrences) same h u
   silent_step d x facts k h (inr within) u = k.covered x within u
 
   -- one that no token of its own declares
-  pub kept_silent : (d : Declaration) (facts : Facts) → Kept a facts → (is_unnamed d.space ≡ false → In (occurrence d.name_at d.entity true) facts.occurrences)
+  pub kept_silent : (d : Declaration) (facts : Facts) → Kept a facts → (is_unnamed d.space ≡ false → IsNoted d facts.occurrences)
       → IsOrdinary d → Joins d facts → Kept a (with_silent d facts)
   kept_silent d facts k h is joins = record {
     covered = λ x within u. silent_step d x facts k h within u;
@@ -125,12 +139,12 @@ module _ (a : List Token) where
 module _ (a b : List Token) where
   -- no token gets the spelling of a declared name that it had not
   pub stand_apart : (facts : Facts) → Kept a facts → Good a b facts → StandApart a b facts.declared
-  stand_apart facts k g = λ d within named. g.apart (occurrence d.name_at d.entity true) (k.covered d within named)
+  stand_apart facts k g = λ d within named. noted_so d facts.occurrences (λ i e. StaysApart a b i) g.apart (k.covered d within named)
 
   name_alike : (facts : Facts) → Kept a facts → Good a b facts → (i : ℕ) (d : Declaration) → In d facts.declared → is_unnamed d.space ≡ false → alike b i d.entity ≡ true
       → alike b i d.name_at ≡ true
   name_alike facts k g i d within u e =
-      alike_same b i d.name_at d.entity e (g.good (occurrence d.name_at d.entity true) (k.covered d within u))
+      alike_same b i d.name_at d.entity e (noted_so d facts.occurrences (λ j f. alike b j f ≡ true) g.good (k.covered d within u))
 
   names_alike : (facts : Facts) → Kept a facts → Good a b facts → (space : Space) (i : ℕ) (test : Declaration → Bool) (r : Option Declaration)
       → looked_up a space i test facts ≡ r → IfSome r (λ d. alike b i d.entity ≡ true) → IfSome r (λ d. alike b i d.name_at ≡ true)

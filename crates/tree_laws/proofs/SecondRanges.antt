@@ -61,7 +61,7 @@ module _ (a : List Token) where
   kept_copies list depth from to facts k = record {
     covered = λ x w u.
         let f : From x facts.declared = from_all list depth from to x facts.declared w in
-        subst (λ (q : Key). In (occurrence q.name_at q.entity true) facts.occurrences) f.1.1
+        subst (λ (q : Key). In (occurrence q.name_at q.entity true) facts.occurrences ⊎ In (occurrence q.name_at q.entity false) facts.occurrences) f.1.1
         (k.covered f.0 f.1.0 (subst (λ (q : Key). is_unnamed q.space ≡ false) (sym f.1.1) u));
     linked = λ x w.
         let f : From x facts.declared = from_all list depth from to x facts.declared w in

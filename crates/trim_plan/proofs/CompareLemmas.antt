@@ -92,11 +92,6 @@ alike-left gone u v k had has old new names others had_is has_is old_is new_is n
       subst (λ (b : Bound). IsLeftName gone u.bound.names b.names k) others_is here;
 }
 
--- a reader of one unit gave what it has
-pub unit-read : {X : Type 0} (f : UnitAnalysis → X) (units : List UnitAnalysis) (n : ℕ) (u : UnitAnalysis) (x : X) → option_map f (slice_get units n) ≡ Some x
-    → slice_get units n ≡ Some u → x ≡ f u
-unit-read f units n u x read at = same_Some x (f u) (sym read ∙ ap (option_map f) at)
-
 -- ---- one unit
 
 pub unit-compared : (lines : List Pos) (u v : UnitAnalysis) (text other : UnitTextValue) (toks others : List Token) (count : ℕ) (l : Left) (old new : Node)

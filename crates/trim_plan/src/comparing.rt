@@ -10,7 +10,7 @@ ghost use Rattle.trim_plan.specs.Trimmed.{plain, IsLeftEntity, IsLeftName};
 
 use crate::left::Left;
 use crate::trees::is_pruned;
-use analysis::{Analysis, Bound};
+use analysis::{Analysis, Bound, UnitAt};
 use cs_base::{Memory, Tok};
 use indexmap::IndexSet;
 use std::alloc::Global;
@@ -132,38 +132,30 @@ fn is_left_name(left: &Left, old: &Bound, new: &Bound, k: u32) -> bool
 }
 
 // Token `k` is gone, or stands at its place and denotes what it denoted.
-fn is_alike(left: &Left, a: &Analysis, b: &Analysis, unit: u32, k: u32) -> bool
-    requires first { 1 ≤ unit }
-    requires last { unit ≤ length a.now.value.units }
-    requires there { unit ≤ length b.now.value.units }
-    ensures { IsTrue result → (u v : UnitAnalysis) (gone : ℕ → Bool) (count : ℕ) → slice_get a.now.value.units (unit - 1) ≡ Some u
-        → slice_get b.now.value.units (unit - 1) ≡ Some v → IsLeftOf gone count left.now → IsAlike gone u v k }
+fn is_alike(left: &Left, u: &UnitAt<'_>, v: &UnitAt<'_>, k: u32) -> bool
+    ensures { IsTrue result → (gone : ℕ → Bool) (count : ℕ) → IsLeftOf gone count left.now → IsAlike gone u.now v.now k }
 {
     if left.is_gone(k) {
         return true;
     }
-    let had = a.text(unit);
-    let has = b.text(unit);
+    let had = u.text();
+    let has = v.text();
     let old = had.toks();
     let new = has.toks();
     if !is_left_tok(left, old, new, k) {
         return false;
     }
-    let names = a.bound(unit);
-    let others = b.bound(unit);
+    let names = u.bound();
+    let others = v.bound();
     is_left_name(left, names, others, k)
 }
 
 // So is each of so many tokens.
-fn are_alike(left: &Left, a: &Analysis, b: &Analysis, unit: u32, count: u32) -> bool
-    requires first { 1 ≤ unit }
-    requires last { unit ≤ length a.now.value.units }
-    requires there { unit ≤ length b.now.value.units }
-    ensures { IsTrue result → (u v : UnitAnalysis) (gone : ℕ → Bool) (n k : ℕ) → slice_get a.now.value.units (unit - 1) ≡ Some u
-        → slice_get b.now.value.units (unit - 1) ≡ Some v → IsLeftOf gone n left.now → k < count → IsAlike gone u v k }
+fn are_alike(left: &Left, u: &UnitAt<'_>, v: &UnitAt<'_>, count: u32) -> bool
+    ensures { IsTrue result → (gone : ℕ → Bool) (n k : ℕ) → IsLeftOf gone n left.now → k < count → IsAlike gone u.now v.now k }
 {
     for k in 0..count {
-        if !is_alike(left, a, b, unit, k) {
+        if !is_alike(left, u, v, k) {
             return false;
         }
     }
@@ -204,20 +196,22 @@ fn is_trimmed_unit(
     ensures { IfOk result (λ same. IsTrue same → (u v : UnitAnalysis) → slice_get a.now.value.units (unit - 1) ≡ Some u
         → slice_get b.now.value.units (unit - 1) ≡ Some v → IsCompared (is_gone lines.now u.text) u v) }
 {
-    let had = a.text(unit);
+    let first = a.unit(alloc, unit)?;
+    let second = b.unit(alloc, unit)?;
+    let had = first.text();
     let toks = had.toks();
     let count = count_of(toks)?;
     let left = Left::of(alloc, lines, had, count)?;
-    let has = b.text(unit);
+    let has = second.text();
     let others = has.toks();
     if !are_left(&left, count, others) {
         return Ok(false);
     }
-    if !are_alike(&left, a, b, unit, count) {
+    if !are_alike(&left, &first, &second, count) {
         return Ok(false);
     }
-    let old = a.tree(alloc, unit)?;
-    let new = b.tree(alloc, unit)?;
+    let old = first.tree(alloc)?;
+    let new = second.tree(alloc)?;
     Ok(is_pruned(&left, &old, &new))
 }
 

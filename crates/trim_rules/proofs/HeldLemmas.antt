@@ -6,7 +6,6 @@ use Rattle.std.specs.Option.{option_map, option_map_or, option_or}
 use Rattle.std.proofs.lemmas.Bool.{cases_Bool}
 use Rattle.std.proofs.lemmas.Bool.Decides.{nat_tests}
 use Rattle.std.proofs.lemmas.List.{append-nil}
-use Rattle.std.proofs.lemmas.Option.{same_Some}
 use Rattle.analysis.specs.Below.c99_tree.Tree.{Node}
 use Rattle.analysis.specs.Below.scope_bind.Bound.{Bound}
 use Rattle.analysis.specs.Below.source_files.Files.{Table}
@@ -120,9 +119,6 @@ held-why table u r k are =
     whole (ap (option_map (name_why text.events)) names) (ap (option_map (definition_why text.toks)) defined) pragmas
 
 -- ---- what is told of a unit
-
-pub told-unit : {X : Type 0} (f : UnitAnalysis → X) (o : Option UnitAnalysis) (u : UnitAnalysis) (x : X) → o ≡ Some u → option_map f o ≡ Some x → x ≡ f u
-told-unit f o u x is e = same_Some x (f u) (sym e ∙ ap (option_map f) is)
 
 pub reasons-of : (table : Table) (u : UnitAnalysis) (r : UnitReasons) (text : UnitTextValue) (tree : Node) (bound : Bound) → text ≡ u.text → tree ≡ u.tree → bound ≡ u.bound
     → r.text.now ≡ text → r.count ≡ length text.toks → AreEdges tree.under r.count r.edges.items

@@ -344,11 +344,6 @@ pub told-cond : {X Y : Type 0} (f : X → Y) (b : Bool) (v : X) (o : Option X) �
 told-cond f true v o = refl
 told-cond f false v o = refl
 
-pub element-at : {X : Type 0} (xs : List X) (k : ℕ) → k < length xs → (x : X) × (slice_get xs k ≡ Some x)
-element-at [] k less = absurd (omega (arith, less))
-element-at (x ∷ xs) zero less = (x, refl)
-element-at (x ∷ xs) (suc k) less = element-at xs k (omega (arith, less))
-
 pub judged-next : (told : Told) (xs ys : List Pos) (p : Pos) (old new : List declared.Judged) (j : declared.Judged) → ys ≡ xs ++ p ∷ [] → new ≡ old ++ j ∷ []
     → judged_in j ≡ told_judgement told p → map judged_in old ≡ map (told_judgement told) xs → map judged_in new ≡ map (told_judgement told) ys
 judged-next told xs ys p old new j more pushed is before =

@@ -1,5 +1,5 @@
 // Which include lines can be taken away, and why others stay.
-ghost use Rattle.std.specs.Prelude.{◌≡◌, ◌≤◌, ◌<◌, ◌+◌, ◌-◌, None, Some, IfOk, OnOk, cond, false, length, map, slice_get};
+ghost use Rattle.std.specs.Prelude.{◌≡◌, ◌<◌, ◌+◌, None, Some, IfOk, OnOk, cond, false, length, map};
 ghost use Rattle.std.specs.List.{list_any};
 ghost use Rattle.std.specs.Option.{option_map, option_map_or, option_or};
 ghost use Rattle.analysis.specs.Analysis.{UnitAnalysis};
@@ -19,7 +19,7 @@ ghost use Rattle.trim_rules.specs.Staying.{event_why, file_has_header, has_heade
 use crate::reached::{items_in, toks_in};
 use crate::reasons::{Reason, Why};
 use crate::unit_reasons::UnitReasons;
-use analysis::{Analysis, Event, KeptFile};
+use analysis::{AllUnits, Analysis, Event, KeptFile, UnitAt};
 use cs_base::{Kind, Memory, Pos, Tok};
 use indexmap::IndexMap;
 use line_shape::Item;
@@ -181,14 +181,16 @@ impl<'a> Judging<'a> {
         Ok(())
     }
 
-    // The inclusions of a unit may; units count from 1.
-    fn note_unit(&mut self, alloc: Global, a: &'a Analysis, unit: u32) -> Result<(), Memory>
-        requires first { 1 ≤ unit }
-        requires last { unit ≤ length a.now.value.units }
-        ensures { OnOk result ((u : UnitAnalysis) → slice_get a.now.value.units (unit - 1) ≡ Some u
-            → Learns (λ p w. option_or w (unit_why a.now.value.table p u)) (told_of self.old.whys) (told_of self.new.whys)) }
+    // The inclusions of a unit may.
+    fn note_unit(
+        &mut self,
+        alloc: Global,
+        a: &'a Analysis,
+        unit: &'a UnitAt<'_>,
+    ) -> Result<(), Memory>
+        ensures { OnOk result (Learns (λ p w. option_or w (unit_why a.now.value.table p unit.now)) (told_of self.old.whys) (told_of self.new.whys)) }
     {
-        let events = a.text(unit).events();
+        let events = unit.text().events();
         if !self.any_open(events) {
             return Ok(());
         }
@@ -210,11 +212,18 @@ impl<'a> Judging<'a> {
         Ok(())
     }
 
-    fn note_units(&mut self, alloc: Global, a: &'a Analysis) -> Result<(), Memory>
+    // The inclusions of all units may.
+    fn note_units(
+        &mut self,
+        alloc: Global,
+        a: &'a Analysis,
+        units: &'a [UnitAt<'_>],
+    ) -> Result<(), Memory>
+        requires { units.now ≡ a.now.value.units }
         ensures { OnOk result (Learns (λ p w. option_or w (inclusion_why a.now.value p)) (told_of self.old.whys) (told_of self.new.whys)) }
     {
-        for n in 0..a.units() {
-            self.note_unit(alloc, a, n + 1)?;
+        for n in 0..units.len() {
+            self.note_unit(alloc, a, &units[n])?;
         }
         Ok(())
     }
@@ -250,12 +259,14 @@ impl<'a> Judging<'a> {
     }
 
     // What is known of each of these lines in the end.
-    fn of(alloc: Global, a: &'a Analysis, lines: &[Pos]) -> Result<Judging<'a>, Memory>
-        ensures { IfOk result (λ j. AreKnown a.now.value lines.now (told_of j.whys)) }
+    fn of(alloc: Global, all: &'a AllUnits<'_>, lines: &[Pos]) -> Result<Judging<'a>, Memory>
+        ensures { IfOk result (λ j. AreKnown all.now.value lines.now (told_of j.whys)) }
     {
         let mut judging = Judging::begun(alloc, lines)?;
+        let a = all.analysis();
+        let units = all.units();
         judging.note_files(a)?;
-        judging.note_units(alloc, a)?;
+        judging.note_units(alloc, a, units)?;
         Ok(judging)
     }
 }
@@ -266,7 +277,8 @@ pub fn judge(alloc: Global, a: &Analysis) -> Result<Vec<Judged>, Memory>
 {
     let lines = unneeded(alloc, a)?;
     let all = lines.as_slice();
-    let judging = Judging::of(alloc, a, all)?;
+    let units = AllUnits::of(alloc, a)?;
+    let judging = Judging::of(alloc, &units, all)?;
     let js = judging.judgements(alloc, all)?;
     Ok(js)
 }

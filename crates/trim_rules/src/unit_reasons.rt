@@ -1,8 +1,7 @@
 // Why the inclusions of a unit keep their lines.
-ghost use Rattle.std.specs.Prelude.{◌≡◌, ◌≤◌, ◌<◌, ◌-◌, ◌^◌, ◌++◌, ◌∷◌, [], IfOk, OnOk, Some, length, slice_get};
+ghost use Rattle.std.specs.Prelude.{◌≡◌, ◌<◌, ◌-◌, ◌^◌, ◌++◌, ◌∷◌, [], IfOk, OnOk, length, slice_get};
 ghost use Rattle.std.specs.List.{list_any};
 ghost use Rattle.std.specs.Option.{option_map, option_map_or};
-ghost use Rattle.analysis.specs.Analysis.{UnitAnalysis};
 ghost use Rattle.analysis.specs.Below.c_types.Declarations.{spelling_at};
 ghost use Rattle.trim_rules.specs.Held.{first_held_defining, first_held_giving, held_giving, is_held_whole, is_within, pragma_held, pragmas_of, why_behind, why_between, why_held, AreReasonsOf};
 ghost use Rattle.trim_rules.specs.Mentions.{told_at};
@@ -14,7 +13,7 @@ use crate::defining::{defining, edges};
 use crate::mentions::Mentions;
 use crate::reached::is_pragma;
 use crate::reasons::Reason;
-use analysis::{Analysis, Event, Reached, UnitText};
+use analysis::{Analysis, Event, Reached, UnitAt, UnitText};
 use cs_base::{Memory, Tok};
 use std::alloc::Global;
 use unused_names::{end_of, gives_meaning, name_of, tokens_before};
@@ -149,18 +148,20 @@ impl<'a> Mentions<'a> {
 }
 
 impl<'a> UnitReasons<'a> {
-    /// Those of a unit; units count from 1.
-    pub(crate) fn of(alloc: Global, a: &'a Analysis, unit: u32) -> Result<UnitReasons<'a>, Memory>
-        requires first { 1 ≤ unit }
-        requires last { unit ≤ length a.now.value.units }
-        ensures own { (u : UnitAnalysis) → slice_get a.now.value.units (unit - 1) ≡ Some u → IfOk result (λ r. AreReasonsOf a.now.value.table u r) }
-        ensures text { IfOk result (λ r. option_map (λ u. u.text) (slice_get a.now.value.units (unit - 1)) ≡ Some r.text.now) }
+    /// Those of a unit.
+    pub(crate) fn of(
+        alloc: Global,
+        a: &'a Analysis,
+        unit: &'a UnitAt<'_>,
+    ) -> Result<UnitReasons<'a>, Memory>
+        ensures own { IfOk result (λ r. AreReasonsOf a.now.value.table unit.now r) }
+        ensures text { IfOk result (λ r. r.text.now ≡ unit.now.text) }
         ensures count { IfOk result (λ r. r.count ≡ length r.text.now.toks) }
     {
-        let text = a.text(unit);
-        let bound = a.bound(unit);
+        let text = unit.text();
+        let bound = unit.bound();
         let count = count_of(text.toks())?;
-        let tree = a.tree(alloc, unit)?;
+        let tree = unit.tree(alloc)?;
         let edges = edges(alloc, &tree, count)?;
         let defining = defining(alloc, &tree, bound, count)?;
         let pragmas = pragmas(alloc, a, text.reached())?;

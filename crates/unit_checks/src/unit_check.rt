@@ -2,6 +2,7 @@
 ghost use Rattle.std.specs.Prelude.{◌≡◌, IfOk};
 ghost use Rattle.std.specs.Option.{option_map};
 ghost use Rattle.cs_base.specs.Outside.{ReadsOnly};
+ghost use Rattle.include_tree.specs.Below.source_files.Files.{nothing_carried};
 ghost use Rattle.unit_checks.specs.Answers.{OverHeld, reads_of};
 ghost use Rattle.unit_checks.specs.Findings.{fault_finding, finding_at, reading_stop, text_of, unit_finding};
 
@@ -78,9 +79,26 @@ pub(crate) fn unit_finding<F: Files>(
     ensures answer { OverHeld (F.told files.old).held (λ source. IfOk result (λ f. f ≡ unit_finding source number unit.now)) }
     ensures faults { ReadsOnly (F.told files.old) (F.told files.new) (reads_of result) }
 {
-    let mut cache = Cache::new(alloc);
-    match preprocess(alloc, &mut cache, files, unit, number) {
-        Ok(text) => Ok(text_finding(alloc, &cache, unit, &text)?),
+    match Cache::new(alloc) {
+        Ok(mut cache) => finding_over(alloc, &mut cache, files, unit, number),
+        Err(_) => Err(CheckFault::Memory),
+    }
+}
+
+// The same with a cache that has nothing yet.
+fn finding_over<F: Files>(
+    alloc: Global,
+    cache: &mut Cache,
+    files: &mut F,
+    unit: &Unit,
+    number: u32,
+) -> Result<Option<Finding>, CheckFault>
+    requires { cache.old ≡ nothing_carried }
+    ensures answer { OverHeld (F.told files.old).held (λ source. IfOk result (λ f. f ≡ unit_finding source number unit.now)) }
+    ensures faults { ReadsOnly (F.told files.old) (F.told files.new) (reads_of result) }
+{
+    match preprocess(alloc, cache, files, unit, number) {
+        Ok(text) => Ok(text_finding(alloc, cache, unit, &text)?),
         Err(fault) => fault_finding(fault),
     }
 }

@@ -48,7 +48,7 @@ fn unit(alloc: Global) -> Result<Unit, Memory> {
 // What it gives with nothing carried.
 fn preprocessed(alloc: Global, files: &mut MemFiles) -> Result<UnitText, PreFault> {
     let unit = unit(alloc)?;
-    let mut cache = Cache::new(alloc);
+    let mut cache = Cache::new(alloc)?;
     preprocess(alloc, &mut cache, files, &unit, 0)
 }
 

@@ -8,14 +8,14 @@ use Rattle.std.proofs.lemmas.Grind.{get_or-set_at}
 use Rattle.std.proofs.lemmas.List.{get_or_past, get_or-replicate, length-replicate, get_or_append_left, get_or-append_right, get_or-set_other}
 use Rattle.std.proofs.lemmas.List.Folds.{list_any_at}
 use Rattle.std.proofs.lemmas.List.FromFn.{get_or-map-range_with_len, length-map-range_with_len}
-use Rattle.std.proofs.lemmas.Option.{same_Some}
+use Rattle.std.proofs.lemmas.Option.{same_Some, slice_get-get_or}
 use Rattle.cs_base.specs.declared.positions.Pos.{Pos}
 use Rattle.cs_base.specs.declared.spans.Span.{Span}
-use Rattle.cs_base.specs.Token.{Token}
+use Rattle.cs_base.specs.Token.{Token, origin_at}
 use Rattle.cs_base.specs.Spans.{lies_in, told_by, origin_by, origins_by, AreSpansFrom, AreSpans}
 use Rattle.cs_base.proofs.PlaceLemmas.{pos_is}
 use Rattle.cs_base.proofs.SpanLemmas.{AreSpansFrom-le}
-use Rattle.unseen_names.specs.Characters.{covers}
+use Rattle.unseen_names.specs.Characters.{covers, StandsFrom}
 use Rattle.unseen_names.specs.Unseen.{comes_from, stands_at}
 
 -- ---- one character
@@ -169,6 +169,39 @@ pub taken : (p : Pos) (t : Token) (before spans : List Span) → AreSpans (0 + l
 unfolding origins_by
 taken p t before spans are told = spans_tell p (0 + length t.text) spans are ∙ ap (list_any (stands_at p)) told
 
+-- a token that is one span
+pub whole_taken : (p : Pos) (t : Token) (s : Span) → length t.origins ≡ length t.text → StandsFrom t s.start → s.len ≡ length t.text
+    → covers p s ≡ comes_from p t
+whole_taken p t s each starts len =
+    both_ways (covers p s) (comes_from p t)
+    (λ is.
+    let parts = and_parts (nat_eq p.file s.start.file) (nat_le s.start.at p.at && nat_lt p.at (s.start.at + s.len)) is in
+    let tests = and_parts (nat_le s.start.at p.at) (nat_lt p.at (s.start.at + s.len)) parts.1 in
+    let behind : s.start.at ≤ p.at = leb-true s.start.at p.at tests.0 in
+    let before : p.at < s.start.at + s.len = grind (arith, nat_tests, tests.1) in
+    let k = p.at - s.start.at in
+    let within : k < length t.text = omega (arith, behind, before, len) in
+    let same : record { file = s.start.file; at = s.start.at + k } ≡ p = pos_is (record { file = s.start.file; at = s.start.at + k }) p (sym (eqb-true p.file s.start.file parts.0)) (omega (arith, behind)) in
+    let at : get_or t.origins k None ≡ Some p = sym (origin_is k within) ∙ (starts k within ∙ ap (λ (q : Pos). Some q) same) in
+    list_any_at (stands_at p) t.origins k None (omega (arith, within, each)) (ap (stands_at p) at ∙ stands_there p))
+    (λ is.
+    let x = some_stands p t.origins is in
+    let within : x.0 < length t.text = omega (arith, x.1, each) in
+    let there : Some (record { file = s.start.file; at = s.start.at + x.0 }) ≡ Some p =
+    sym (starts x.0 within) ∙ (origin_is x.0 within ∙ stands p (get_or t.origins x.0 None) x.2) in
+    let same = same_Some (record { file = s.start.file; at = s.start.at + x.0 }) p there in
+    subst (λ (q : Pos). covers q s ≡ true) same (number_covered s x.0 (omega (arith, within, len))))
+  where
+    origin_is : (k : ℕ) → k < length t.text → origin_at t k ≡ get_or t.origins k None
+    origin_is k within = rw (slice_get-get_or t.origins k None (omega (arith, within, each))) refl
+
+    number_covered : (s : Span) (k : ℕ) → k < s.len → covers (record { file = s.start.file; at = s.start.at + k }) s ≡ true
+    number_covered s k less = grind (arith, nat_tests)
+
 pub on_ok_if : {X E : Type 0} (r : Result X E) (P Q : Type 0) → IfOk r (λ _. P) → (P → Q) → OnOk r Q
 on_ok_if (Ok x) P Q h follows = follows h
 on_ok_if (Err e) P Q h follows = tt
+
+pub on_ok_map : {X E : Type 0} (r : Result X E) (P Q : Type 0) → OnOk r P → (P → Q) → OnOk r Q
+on_ok_map (Ok x) P Q h follows = follows h
+on_ok_map (Err e) P Q h follows = tt

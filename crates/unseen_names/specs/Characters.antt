@@ -3,6 +3,7 @@ use Rattle.std.specs.Prelude.{ℕ, ◌+◌, ◌≡◌, ◌<◌, ◌≤◌, ◌||
 use Rattle.cs_base.specs.declared.positions.Part.{Part}
 use Rattle.cs_base.specs.declared.positions.Pos.{Pos}
 use Rattle.cs_base.specs.declared.spans.Span.{Span}
+use Rattle.cs_base.specs.Token.{Token, origin_at}
 use Rattle.eclass_map.specs.Positions.{along}
 
 -- whether a character is marked
@@ -26,6 +27,10 @@ pub record SetsRow (from end : ℕ) (old new : List Bool) : Type 0 where
 -- the position is one of the span's
 abbrev pub covers : Pos → Span → Bool
 covers p s = nat_eq p.file s.start.file && (nat_le s.start.at p.at && nat_lt p.at (s.start.at + s.len))
+
+-- each character of the token stands behind the one before it in a file, and the first one there
+abbrev pub StandsFrom : Token → Pos → Type 0
+StandsFrom t start = (k : ℕ) → k < length t.text → origin_at t k ≡ Some (record { file = start.file; at = start.at + k })
 
 -- there is room for the marks of a file, and the marks are what they were
 pub record Reaches (file : ℕ) (old new : List (List Bool)) : Type 0 where

@@ -2,7 +2,7 @@
 ghost use Rattle.std.specs.Prelude.{◌≡◌, ◌≤◌, ◌+◌, [], OnOk, MatchBool, false, length, slice_index_or};
 ghost use Rattle.std.specs.List.{list_any};
 ghost use Rattle.cs_base.specs.declared.positions.Pos.{Pos as APos};
-ghost use Rattle.unseen_names.specs.Characters.{covers, is_marked, Adds, AnyMarked, Grows, HoldsMark, Reaches, ReachesRow, SetsRow};
+ghost use Rattle.unseen_names.specs.Characters.{covers, is_marked, Adds, AnyMarked, Grows, HoldsMark, Reaches, ReachesRow, SetsRow, StandsFrom};
 ghost use Rattle.unseen_names.specs.Unseen.{comes_from};
 
 use cs_base::{Memory, Part, Pos, Span, Tok};
@@ -150,8 +150,24 @@ pub(crate) fn mark_token(
 ) -> Result<(), Memory>
     ensures { OnOk result (Adds (λ q. comes_from q tok.now) marks.old.items marks.new.items) }
 {
+    if let Some(start) = tok.start() {
+        return mark_from(alloc, marks, start, tok);
+    }
     take_spans(spans, tok)?;
     mark_spans(alloc, marks, spans)
+}
+
+// The same where each of its characters stands in a file behind the one before it, the first there.
+fn mark_from(alloc: Global, marks: &mut Vec<Marks>, start: Pos, tok: &Tok) -> Result<(), Memory>
+    requires { StandsFrom tok.now start }
+    ensures { OnOk result (Adds (λ q. comes_from q tok.now) marks.old.items marks.new.items) }
+{
+    let span = Span {
+        from: 0,
+        len: tok.text().len() as u32,
+        start,
+    };
+    mark_span(alloc, marks, span)
 }
 
 /// Marks those that tokens come from.

@@ -196,13 +196,8 @@ pub(crate) fn marks_of(alloc: Global, a: &Analysis, group: Group) -> Result<Vec<
 {
     let mut marks = Vec::new(alloc);
     for unit in 0..a.units() {
-        mark_unit(
-            alloc,
-            &mut marks,
-            group,
-            a.text(unit + 1),
-            a.bound(unit + 1),
-        )?;
+        let one = a.unit(alloc, unit + 1)?;
+        mark_unit(alloc, &mut marks, group, one.text(), one.bound())?;
     }
     Ok(marks)
 }

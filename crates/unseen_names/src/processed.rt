@@ -18,7 +18,8 @@ fn processed(alloc: Global, a: &Analysis) -> Result<Vec<Marks>, Memory>
 {
     let mut marks = Vec::new(alloc);
     for unit in 0..a.units() {
-        mark_tokens(alloc, &mut marks, a.text(unit + 1).toks())?;
+        let one = a.unit(alloc, unit + 1)?;
+        mark_tokens(alloc, &mut marks, one.text().toks())?;
     }
     Ok(marks)
 }

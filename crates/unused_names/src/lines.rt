@@ -133,7 +133,8 @@ impl Lines {
     {
         let mut lines = Lines::new(alloc);
         for unit in 0..a.units() {
-            lines.push_unit(alloc, a.text(unit + 1), a.bound(unit + 1))?;
+            let one = a.unit(alloc, unit + 1)?;
+            lines.push_unit(alloc, one.text(), one.bound())?;
         }
         Ok(lines)
     }

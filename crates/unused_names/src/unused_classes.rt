@@ -9,7 +9,7 @@ ghost use Rattle.unused_names.specs.Unused.{AreUnused, IsDeclaredAlone, IsUnused
 ghost use Rattle.class_marks.specs.declared.roles.Role.TheVariants as role;
 
 use analysis::Analysis;
-use class_marks::{Role, has_read_only, is_marked, marks_of, read_only_files};
+use class_marks::{Role, class_number, has_read_only, is_class_marked, marks_of, read_only_files};
 use cs_base::{Memory, Part};
 use std::alloc::Global;
 
@@ -20,10 +20,11 @@ fn is_declared_alone(a: &Analysis, declared: &[bool], used: &[bool], part: Part)
     requires used { AreMarked a.now.classes (names_with role.Uses a.now.value) used.now }
     ensures { MatchBool result (IsDeclaredAlone a.now.value part) (IsDeclaredAlone a.now.value part → ⊥) }
 {
-    if !is_marked(a, declared, part) {
+    let class = class_number(a, part);
+    if !is_class_marked(a, declared, part, class) {
         return false;
     }
-    let is_used = is_marked(a, used, part);
+    let is_used = is_class_marked(a, used, part, class);
     !is_used
 }
 

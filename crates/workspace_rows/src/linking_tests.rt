@@ -143,9 +143,11 @@ fn linked_names_are_of_one_class(rt: HostRuntime) -> Result<(), Fail> {
         let (about, row) = cut(row);
         let (ws, row) = cut(row);
         let (files, want) = cut(row);
-        let a = analysed(alloc, ws, files)?;
-        let shown = show_classes(alloc, &a)?;
-        assert_eq!(rt; shown.as_slice(), want.as_bytes(), "{about}");
+        for room in [1000, 0] {
+            let a = analysed(alloc, ws, files, room)?;
+            let shown = show_classes(alloc, &a)?;
+            assert_eq!(rt; shown.as_slice(), want.as_bytes(), "{about}");
+        }
     }
     Ok(())
 }

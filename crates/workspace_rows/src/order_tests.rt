@@ -26,6 +26,7 @@ fn parts_stand_in_the_order_of_the_paths_of_their_files(rt: HostRuntime) -> Resu
         alloc,
         "file b.c\nfile a.c\n",
         "a.c:int a = __LINE__;\n@b.c:int b;\n",
+        100,
     )?;
     let text = shown(alloc, &a)?;
     assert_eq!(rt; text.as_slice(), b"1 0 3 2 ".as_slice());

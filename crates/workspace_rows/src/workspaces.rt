@@ -1,5 +1,5 @@
 // Workspaces in memory.
-use analysis::{Analysis, analyse};
+use analysis::{Analysis, analyse_within};
 use std::alloc::{AllocError, Global};
 use std::test::Fail;
 use ws_file::{Workspace, read_ws};
@@ -12,11 +12,12 @@ pub fn workspace(alloc: Global, text: &str) -> Result<Workspace, Fail> {
     }
 }
 
-/// The analysis of a workspace, which is accepted. The files are held, each as `PATH:TEXT` with `@` between them.
-pub fn analysed(alloc: Global, ws: &str, files: &str) -> Result<Analysis, Fail> {
+/// The analysis of a workspace, which is accepted; units of at most so many tokens together are kept. The files are held, each
+/// as `PATH:TEXT` with `@` between them.
+pub fn analysed(alloc: Global, ws: &str, files: &str, room: usize) -> Result<Analysis, Fail> {
     let ws = workspace(alloc, ws)?;
     let mut files = row_tools::held(alloc, files)?;
-    match analyse(alloc, &ws, &mut files) {
+    match analyse_within(alloc, &ws, &mut files, room) {
         Ok(analysis) => Ok(analysis),
         Err(_) => Err(AllocError)?,
     }

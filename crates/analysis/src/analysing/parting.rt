@@ -7,8 +7,8 @@ ghost use Rattle.analysis.specs.Classes.{AreItsClasses};
 
 use super::{Analysis, with_lists};
 use crate::accepted::{Accepted, UnitParts};
-use crate::brought::all_brought;
 use crate::file_tokens::numbers;
+use crate::processed::processed;
 use cs_base::Memory;
 use eclass_map::Classes;
 use include_tree::Cache;
@@ -26,10 +26,10 @@ pub struct AnalysisParts {
 }
 
 impl Analysis {
-    /// The parts of the analysis, each as it is. Takes no memory.
-    pub fn into_parts(self) -> AnalysisParts
-        ensures answer { analysed (analysis_and result.workspace result.units.items result.cache.table) result.classes ≡ self }
-        ensures few { length result.units.items ≤ most_units }
+    /// The parts of the analysis, each as it is: units that are not kept are made again.
+    pub fn into_parts(self, alloc: Global) -> Result<AnalysisParts, Memory>
+        ensures answer { IfOk result (λ p. analysed (analysis_and p.workspace p.units.items p.cache.table) p.classes ≡ self) }
+        ensures few { IfOk result (λ p. length p.units.items ≤ most_units) }
         ensures own { AreItsClasses self.value self.classes }
     {
         let Analysis {
@@ -37,13 +37,13 @@ impl Analysis {
             classes,
             ..
         } = self;
-        let (workspace, units, cache) = accepted.into_parts();
-        AnalysisParts {
+        let (workspace, units, cache) = accepted.into_parts(alloc)?;
+        Ok(AnalysisParts {
             workspace,
             units,
             cache,
             classes,
-        }
+        })
     }
 
     /// The analysis of these parts, where the table has the classes of their links. The lists of the members of
@@ -59,9 +59,9 @@ impl Analysis {
             cache,
             classes,
         } = parts;
-        let accepted = Accepted::new(workspace, units, cache);
-        let brought = all_brought(alloc, accepted.units())?;
-        let numbers = numbers(alloc, &brought)?;
-        with_lists(alloc, accepted, classes, brought, numbers)
+        let accepted = Accepted::of_kept(alloc, workspace, units, cache)?;
+        let numbers = numbers(alloc, accepted.brought())?;
+        let marks = processed(alloc, &accepted)?;
+        with_lists(alloc, accepted, classes, marks, numbers)
     }
 }

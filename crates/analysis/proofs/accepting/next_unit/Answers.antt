@@ -1,3 +1,4 @@
+use Rattle.include_tree.specs.Fronts.{AreFronts}
 use Rattle.analysis.specs.Answers.{fault_of}
 use Rattle.analysis.specs.Carrying.{IsFresh}
 use Rattle.analysis.proofs.UnitsLemmas.{on_any, passed-read, passed-fault}
@@ -16,3 +17,6 @@ returns-in-Ok-clause-answer g c =
 pub returns-in-Err-clause-answer : goal.returns-in-Err-clause-answer
 returns-in-Err-clause-answer g c = λ fresh source found.
     passed-fault source c.args.number c.args.unit.now c.args.cache.now (fault_of c.in-Err.fault) (c.in-Err.ensures.answer fresh source found)
+
+pub returns-in-Ok-clause-shared : goal.returns-in-Ok-clause-shared
+returns-in-Ok-clause-shared g c = on_any c.read_text.result (AreFronts c.next_text.new.cache.table c.next_text.new.fronts.all.items) c.in-Ok.ensures.fronts

@@ -18,6 +18,7 @@ loop-i-init g c = record {
   once = subst (λ (k : Carried). HasEachOnce k.table) (sym c.requires.first) refl;
   found = subst (λ (k : Carried). IfSome (g.F.Files.told c.args.files.now).held (λ held. AreFound (source_of held) k.table)) (sym c.requires.first)
       (none_found (g.F.Files.told c.args.files.now).held);
+  fronts = c.new-fronts.ensures c.args.cache.now.table;
   rest = λ source found. rw c.new-all.ensures.items (rest_first source c.args.units.now c.args.cache.now c.requires.first);
 }
 
@@ -44,6 +45,7 @@ loop-i-preserved g c =
       fresh = c.in-Ok.ensures.fresh i.fresh;
       once = reads.once;
       found = found_more (g.F.Files.told c.args.files.now).held c.loop-i.cache.table c.next_text.new.cache.table i.found reads.found;
+      fronts = c.in-Ok.ensures.fronts;
       rest = λ source found.
           rest_more source c.args.units.now c.loop-i.i c.index-units-i.result c.index-units-i.result c.loop-i.all.items c.add.new.all.items
           c.in-Ok.text c.loop-i.cache c.next_text.new.cache c.loop-i-test.true c.index-units-i.is c.in_ok-add-in-Ok.ensures

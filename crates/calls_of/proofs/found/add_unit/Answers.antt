@@ -1,18 +1,18 @@
 use Rattle.std.proofs.Common.{rules, ◌≡◌, ◌++◌, List, ap, ◌∙◌}
-use Rattle.analysis.specs.Analysis.{UnitAnalysis}
 use Rattle.calls_of.specs.declared.nodes.Node.{Node}
 use Rattle.calls_of.specs.Calls.{Call}
 use Rattle.calls_of.specs.InUnits.{owner_by, first_by}
-use Rattle.calls_of.proofs.UnitLemmas.{part-of, unit-calls, unit-nodes}
+use Rattle.calls_of.proofs.UnitLemmas.{unit-calls, unit-nodes}
 use Rattle.calls_of.proofs.found.add_unit.Goals as goal
 
 pub returns-clause-calls : goal.returns-clause-calls
-returns-clause-calls c = λ u at.
+returns-clause-calls c =
+    let u = c.args.read.now in
     let one = c.in_ok-one.one in
     let known = c.args.known.now in
     let text = c.text-text.result.now in
-    let read : text ≡ u.text = part-of (λ (v : UnitAnalysis). v.text) _ u text at c.text-text.ensures in
-    let is : c.bound-bound.result.now ≡ u.bound = part-of (λ (v : UnitAnalysis). v.bound) _ u c.bound-bound.result.now at c.bound-bound.ensures in
+    let read = c.text-text.ensures in
+    let is = c.bound-bound.ensures in
     let own : one.project.now ≡ c.args.unit.now.project = search rules in
     let toks : one.toks.now ≡ text.toks = search rules in
     let bound : one.bound.now ≡ c.bound-bound.result.now = search rules in
@@ -23,12 +23,13 @@ returns-clause-calls c = λ u at.
     c.requires.known.owners c.requires.known.firsts own (toks ∙ ap (λ t. t.toks) read) (bound ∙ is) (events ∙ ap (λ t. t.events) read))
 
 pub returns-clause-nodes : goal.returns-clause-nodes
-returns-clause-nodes c = λ u at.
+returns-clause-nodes c =
+    let u = c.args.read.now in
     let one = c.in_ok-one.one in
     let known = c.args.known.now in
     let text = c.text-text.result.now in
-    let read : text ≡ u.text = part-of (λ (v : UnitAnalysis). v.text) _ u text at c.text-text.ensures in
-    let is : c.bound-bound.result.now ≡ u.bound = part-of (λ (v : UnitAnalysis). v.bound) _ u c.bound-bound.result.now at c.bound-bound.ensures in
+    let read = c.text-text.ensures in
+    let is = c.bound-bound.ensures in
     let own : one.project.now ≡ c.args.unit.now.project = search rules in
     let toks : one.toks.now ≡ text.toks = search rules in
     let bound : one.bound.now ≡ c.bound-bound.result.now = search rules in

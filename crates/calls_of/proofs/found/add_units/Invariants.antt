@@ -5,7 +5,7 @@ use Rattle.calls_of.proofs.found.add_units.Given as goal
 
 abbrev pub invariant-loop-i : goal.invariant-loop-i
 invariant-loop-i l =
-    (l.calls.items ++ in_units (calls_in_unit l.a.value) (drop l.i l.units) (drop l.i l.a.value.units)
-    ≡ l.initial.calls.items ++ in_units (calls_in_unit l.a.value) l.units l.a.value.units)
-    × (l.nodes.items ++ in_units (nodes_in_unit l.a.value) (drop l.i l.units) (drop l.i l.a.value.units)
-    ≡ l.initial.nodes.items ++ in_units (nodes_in_unit l.a.value) l.units l.a.value.units)
+    (l.calls.items ++ in_units (calls_in_unit l.a.value) (drop l.i l.units) (drop l.i l.all)
+    ≡ l.initial.calls.items ++ in_units (calls_in_unit l.a.value) l.units l.all)
+    × (l.nodes.items ++ in_units (nodes_in_unit l.a.value) (drop l.i l.units) (drop l.i l.all)
+    ≡ l.initial.nodes.items ++ in_units (nodes_in_unit l.a.value) l.units l.all)

@@ -1,4 +1,4 @@
-use Rattle.std.proofs.Common.{◌≡◌, ◌∙◌, ◌<◌, ℕ, List, Some, length, ap, sym, subst, arith}
+use Rattle.std.proofs.Common.{◌≡◌, ◌∙◌, ◌<◌, ℕ, List, Some, length, ap, subst, arith}
 use Rattle.std.specs.List.{flat_map}
 use Rattle.std.proofs.lemmas.List.{take_all}
 use Rattle.cs_base.specs.declared.positions.Part.{Part}
@@ -6,7 +6,7 @@ use Rattle.eclass_map.specs.ClassTable.{Table, class_in}
 use Rattle.analysis.specs.Below.scope_bind.Bound.{Bound}
 use Rattle.analysis.specs.Below.scope_bind.declared.bound.Name.{Name}
 use Rattle.analysis.specs.Below.unit_steps.Texts.{UnitTextValue}
-use Rattle.analysis.proofs.OneUnitLemmas.{bound_of_unit, unit_of_text}
+use Rattle.analysis.proofs.OneUnitLemmas.{unit_of_number}
 use Rattle.analysis.specs.Analysis.{UnitAnalysis}
 use Rattle.class_marks.specs.Marks.{with_tokens}
 use Rattle.class_marks.specs.Roles.{names_in, names_with}
@@ -18,17 +18,17 @@ loop-unit-preserved c =
     let a = c.args.a.now in
     let units = a.value.units in
     let n = c.loop-unit.unit in
-    let u = unit_of_text units n c.text.result.now c.text.ensures in
-    let names : u.0.bound.names ≡ c.bound.result.now.names =
-    ap (λ (b : Bound). b.names) (bound_of_unit units n u.0 c.bound.result.now u.1 c.bound.ensures) in
+    let u = c.in_ok-one.one in
+    let at = unit_of_number units n u c.in_ok-one.ensures in
+    let names = ap (λ (b : Bound). b.names) c.bound.ensures in
     let old = c.loop-unit.marks.items in
     let here =
     c.in_ok-mark_unit.ensures
     ∙ ap (λ (t : Table). with_tokens t old (names_in c.args.role c.text.result.now c.bound.result.now.names)) c.classes-classes.ensures.answer
-    ∙ ap (λ (t : UnitTextValue). with_tokens a.classes old (names_in c.args.role t c.bound.result.now.names)) (sym u.2)
-    ∙ ap (λ (ns : List Name). with_tokens a.classes old (names_in c.args.role u.0.text ns)) (sym names) in
-    list_step a.classes (λ (v : UnitAnalysis). names_in c.args.role v.text v.bound.names) units n u.0 c.in_ok-marks.marks.items c.loop-unit.marks.items
-    c.mark_unit.new.marks.items u.1 c.loop-unit.invariant here
+    ∙ ap (λ (t : UnitTextValue). with_tokens a.classes old (names_in c.args.role t c.bound.result.now.names)) c.text.ensures
+    ∙ ap (λ (ns : List Name). with_tokens a.classes old (names_in c.args.role u.text ns)) names in
+    list_step a.classes (λ (v : UnitAnalysis). names_in c.args.role v.text v.bound.names) units n u c.in_ok-marks.marks.items c.loop-unit.marks.items
+    c.mark_unit.new.marks.items at c.loop-unit.invariant here
 
 pub returns : goal.returns
 unfolding names_with

@@ -1,11 +1,11 @@
-use Rattle.std.proofs.Common.{◌≡◌, ◌∙◌, List, ap, sym, arith}
+use Rattle.std.proofs.Common.{◌∙◌, List, ap, arith}
 use Rattle.std.specs.List.{fold, flat_map}
 use Rattle.std.proofs.lemmas.List.{take_all}
 use Rattle.eclass_map.specs.ClassTable.{Table}
 use Rattle.analysis.specs.Below.scope_bind.Bound.{Bound}
 use Rattle.analysis.specs.Below.scope_bind.declared.bound.Name.{Name}
 use Rattle.analysis.specs.Below.unit_steps.Texts.{UnitTextValue}
-use Rattle.analysis.proofs.OneUnitLemmas.{bound_of_unit, unit_of_text}
+use Rattle.analysis.proofs.OneUnitLemmas.{unit_of_number}
 use Rattle.analysis.specs.Analysis.{UnitAnalysis}
 use Rattle.class_marks.specs.Marks.{with_tokens}
 use Rattle.class_marks.specs.Roles.{names_in, names_with}
@@ -18,17 +18,17 @@ loop-unit-preserved c = λ role marks.
     let a = c.args.a.now in
     let units = a.value.units in
     let n = c.loop-unit.unit in
-    let u = unit_of_text units n c.text.result.now c.text.ensures in
-    let names : u.0.bound.names ≡ c.bound.result.now.names =
-    ap (λ (b : Bound). b.names) (bound_of_unit units n u.0 c.bound.result.now u.1 c.bound.ensures) in
+    let u = c.in_ok-one.one in
+    let at = unit_of_number units n u c.in_ok-one.ensures in
+    let names = ap (λ (b : Bound). b.names) c.bound.ensures in
     let old = fold (mark_touch role) marks c.loop-unit.all.items in
     let here =
     c.in_ok-push_unit.ensures role marks
     ∙ ap (λ (t : Table). with_tokens t old (names_in role c.text.result.now c.bound.result.now.names)) c.classes-classes.ensures.answer
-    ∙ ap (λ (t : UnitTextValue). with_tokens a.classes old (names_in role t c.bound.result.now.names)) (sym u.2)
-    ∙ ap (λ (ns : List Name). with_tokens a.classes old (names_in role u.0.text ns)) (sym names) in
-    list_step a.classes (λ (v : UnitAnalysis). names_in role v.text v.bound.names) units n u.0 marks old
-    (fold (mark_touch role) marks c.push_unit.new.all.items) u.1 (c.loop-unit.invariant role marks) here
+    ∙ ap (λ (t : UnitTextValue). with_tokens a.classes old (names_in role t c.bound.result.now.names)) c.text.ensures
+    ∙ ap (λ (ns : List Name). with_tokens a.classes old (names_in role u.text ns)) names in
+    list_step a.classes (λ (v : UnitAnalysis). names_in role v.text v.bound.names) units n u marks old
+    (fold (mark_touch role) marks c.push_unit.new.all.items) at (c.loop-unit.invariant role marks) here
 
 pub returns : goal.returns
 unfolding names_with

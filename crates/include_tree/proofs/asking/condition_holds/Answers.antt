@@ -1,4 +1,4 @@
-use Rattle.std.proofs.Common.{ℕ, Bool, List, map, refl, ◌∙◌, ap, is_some}
+use Rattle.std.proofs.Common.{ℕ, Bool, List, map, ◌∙◌, ap, is_some}
 use Rattle.cs_base.specs.Token.{Token}
 use Rattle.source_files.specs.Answers.{fault_of}
 use Rattle.source_files.specs.Files.{SourceFile}

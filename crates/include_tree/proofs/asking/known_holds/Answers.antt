@@ -1,4 +1,4 @@
-use Rattle.std.proofs.Common.{ℕ, Bool, false, List, refl, ◌∙◌, ap, is_some}
+use Rattle.std.proofs.Common.{ℕ, Bool, false, List, ◌∙◌, ap, is_some}
 use Rattle.cs_base.specs.Token.{Token}
 use Rattle.source_files.specs.Answers.{fault_of}
 use Rattle.source_files.specs.Files.{SourceFile}
@@ -6,7 +6,7 @@ use Rattle.source_files.specs.Sources.{source_at}
 use Rattle.source_files.proofs.TableLemmas.{reads-refl}
 use Rattle.unit_steps.specs.Conditions.{judged}
 use Rattle.unit_steps.specs.Moments.{state_in}
-use Rattle.unit_steps.specs.Questions.{questions_from, question_of}
+use Rattle.unit_steps.specs.Questions.{questions_from}
 use Rattle.unit_steps.specs.State.{State, Outcome}
 use Rattle.include_tree.specs.Asking.{looked}
 use Rattle.include_tree.specs.GivenFiles.{unit_context}

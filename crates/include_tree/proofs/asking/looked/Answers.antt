@@ -1,4 +1,4 @@
-use Rattle.std.proofs.Common.{◌≡◌, ◌∷◌, ◌++◌, List, map, Ok, refl, sym, ◌∙◌, ap, is_some}
+use Rattle.std.proofs.Common.{map, refl, ◌∙◌, ap, is_some}
 use Rattle.std.specs.Prelude.{IsSome}
 use Rattle.cs_base.specs.Outside.{FilesTold}
 use Rattle.source_files.specs.Answers.{fault_of}

@@ -1,4 +1,4 @@
-use Rattle.std.proofs.Common.{◌≡◌, ◌&&◌, List, map, length}
+use Rattle.std.proofs.Common.{◌≡◌, ◌&&◌, map, length}
 use Rattle.std.specs.Prelude.{IfSome, IsTrue}
 use Rattle.std.specs.List.{list_all}
 use Rattle.source_files.specs.Answers.{ReadsOn}

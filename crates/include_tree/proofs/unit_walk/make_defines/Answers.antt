@@ -1,6 +1,5 @@
 use Rattle.std.proofs.Common.{refl}
 use Rattle.source_files.proofs.TableLemmas.{widens_refl}
-use Rattle.include_tree.proofs.UnitLemmas.{shared-opening, own-opening}
 use Rattle.include_tree.proofs.unit_walk.make_defines.Goals as goal
 
 pub returns-in_err-text-clause-keeps : goal.returns-in_err-text-clause-keeps

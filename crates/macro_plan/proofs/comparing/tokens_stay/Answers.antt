@@ -14,4 +14,4 @@ returns-in-Ok c =
     let over : IsOver (Some held) table (λ (source : Source). texts_of source c.workspace.result.now.units ≡ Ok now) = c.in-Ok.ensures.over.2 in
     let same = subst (λ (w : WorkspaceValue). IsOver (Some held) table (λ (source : Source). texts_of source w.units ≡ Ok now)) c.workspace.ensures over in
     λ stay. keeps_over c.args.a.now.value c.args.edits.now held now c.tables_are_found.ensures c.made_files_are_pseudo.ensures
-    c.in_ok-files.ensures table c.in-Ok.ensures.over.1 same (c.units_stay.ensures stay)
+    c.in_ok-files.ensures table c.in-Ok.ensures.over.1 same (c.in_ok-stay-in-Ok.ensures stay)

@@ -18,5 +18,7 @@ returns c =
     if_ok c.or_failing.result
     (λ (now : Option Offence). (offences : List Offence) → IsFirst a.table offences c.in_ok-known.known → IsFirst a.table (with_failing a class.members name offences) now)
     (IsFirst a.table (offences_of a class.members name c.args.strings))
-    (λ now first. first (members ++ spellings) (spelled.goes_on members (at_members.goes_on [] refl)))
+    (λ now first.
+    first (members ++ spellings)
+    ((spelled c.args.strings c.in_ok-found.ensures).goes_on members ((at_members c.args.strings c.in_ok-found.ensures).goes_on [] refl)))
     c.or_failing.ensures

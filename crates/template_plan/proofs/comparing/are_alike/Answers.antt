@@ -5,15 +5,15 @@ use Rattle.template_plan.proofs.ComparedLemmas.{below-next}
 use Rattle.template_plan.proofs.comparing.are_alike.Goals as goal
 
 pub loop-k-init : goal.loop-k-init
-loop-k-init c = λ u v j at had has below is. absurd (omega (arith, below))
+loop-k-init c = λ j at below is. absurd (omega (arith, below))
 
 pub loop-k-preserved : goal.loop-k-preserved
-loop-k-preserved c = λ u v j at had has below is.
+loop-k-preserved c = λ j at below is.
     let places = c.args.places.now in
-    below-next (λ (i : ℕ). (at : ℕ) → slice_get places i ≡ Some at → IsAlikeAt u v places i at) c.loop-k.k j below
-    (λ i less at is. c.loop-k.invariant u v i at had has less is)
-    (λ at is. c.if-not-is_alike.ensures refl u v had has at is) at is
+    below-next (λ (i : ℕ). (at : ℕ) → slice_get places i ≡ Some at → IsAlikeAt c.args.u.now c.args.v.now places i at) c.loop-k.k j below
+    (λ i less at is. c.loop-k.invariant i at less is)
+    (λ at is. c.if-not-is_alike.ensures refl at is) at is
 
 pub returns : goal.returns
-returns c = λ passed u v had has k at is.
-    c.loop-k.invariant u v k at had has (omega (arith, c.loop-k-test.false, slice_get_within c.args.places.now k at is)) is
+returns c = λ passed k at is.
+    c.loop-k.invariant k at (omega (arith, c.loop-k-test.false, slice_get_within c.args.places.now k at is)) is

@@ -7,11 +7,12 @@ use Rattle.analysis.specs.Below.unit_steps.Texts.{UnitTextValue}
 use Rattle.gnu_lists.specs.Lists.{listed_in}
 use Rattle.analysis.specs.Analysed.{Analysed}
 use Rattle.analysis.specs.Analysis.{UnitAnalysis}
+use Rattle.analysis.proofs.OneUnitLemmas.{same_unit}
 use Rattle.offences.specs.Class.{ClassValue}
 use Rattle.offences.specs.declared.firsts.Offence.{Offence}
 use Rattle.offences.specs.First.{FirstThen}
 use Rattle.template_rules.specs.GnuOffences.{told_offences, IsAgainstUnit}
-use Rattle.template_rules.proofs.GnuLemmas.{against, if_ok, not_against, told, unit_is}
+use Rattle.template_rules.proofs.GnuLemmas.{against, if_ok, not_against, unit_is}
 use Rattle.template_rules.proofs.gnu_units.in_unit.Goals as goal
 
 pub returns-then-is_none : goal.returns-then-is_none
@@ -31,7 +32,6 @@ returns c =
     let toks = f.text.now.toks in
     let bound = f.bound.now in
     let listed = c.in_ok-lists.lists in
-    let unit = slice_get a.units (c.args.number - 1) in
     let own = unit_is class c.units-units.result.now c.units-units.ensures (c.args.number - 1) f (omega (arith, c.units-units.ensures.many, c.requires.start, c.requires.end))
     c.index-units-k.is in
     if_ok c.in_lists.result (FirstThen a.table (told_offences class.members words toks bound listed) c.args.first) (IsAgainstUnit a class.members words c.args.number c.args.first)
@@ -40,7 +40,8 @@ returns c =
     (λ (u : UnitAnalysis) is.
     let one = own.1 u is in
     let text = ap (λ (t : UnitTextValue). t.toks) one.of_text in
-    let tree = told (λ (v : UnitAnalysis). v.tree) unit u c.in_ok-tree.tree is (rw c.analysis-a.ensures at c.in_ok-tree.ensures) in (
+    let read = same_unit (slice_get a.units (c.args.number - 1)) u c.in_ok-read.read is (rw c.analysis-a.ensures at c.in_ok-read.ensures) in
+    let tree = c.in_ok-tree.ensures ∙ ap (λ (v : UnitAnalysis). v.tree) read in (
       text,
       one.of_bound,
       rw c.toks.ensures at c.in_ok-lists.ensures ∙ (ap (λ (ts : List Token). listed_in ts c.in_ok-tree.tree.under) text ∙ ap (λ (n : Node). listed_in u.text.toks n.under) tree),

@@ -4,7 +4,7 @@ use Rattle.template_rules.proofs.list_macros.is_everywhere_at.Goals as goal
 
 pub returns-in-Some : goal.returns-in-Some
 returns-in-Some c =
-    c.is_list_near.ensures
+    c.is_served.ensures
     ∙ everywhere_some c.args.functions.now.members c.args.functions.now.analysis.value c.args.toks.now c.args.reached.now c.args.list.now c.args.number c.requires.run
     c.in-Some.item (sym c.in-Some.ensures)
 

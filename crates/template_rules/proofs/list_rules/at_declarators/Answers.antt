@@ -5,7 +5,7 @@ use Rattle.template_rules.proofs.StepLemmas.{more_next, more_all}
 use Rattle.template_rules.proofs.list_rules.at_declarators.Goals as goal
 
 pub loop-list-init : goal.loop-list-init
-loop-list-init c = (then_none c.args.functions.now.analysis.value.table c.args.first, c.all_units-near.ensures)
+loop-list-init c = (then_none c.args.functions.now.analysis.value.table c.args.first, c.all_units-near.ensures, c.nothing_known-known.ensures c.args.functions.now c.args.unit.now.text.now.toks)
 
 pub loop-list-preserved : goal.loop-list-preserved
 loop-list-preserved c =
@@ -14,6 +14,7 @@ loop-list-preserved c =
           c.args.all.now c.loop-list.list-index c.list-item.result c.args.first c.loop-list.now c.declarator_at-now.result
           c.loop-list-test.true c.list-item.is c.loop-list.invariant.0 c.declarator_at-now.ensures,
       c.units_at-near.ensures,
+      c.known_at-known.ensures,
     )
 
 pub returns : goal.returns

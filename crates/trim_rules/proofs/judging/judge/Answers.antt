@@ -10,6 +10,7 @@ returns c = record {
   lines = c.in_ok-lines.lines.items;
   unneeded = c.in_ok-lines.ensures;
   each =
-      c.in_ok-js.ensures ∙ judged-each c.args.a.now.value c.as_slice-all.result.now (told_of c.in_ok-judging.judging.whys) c.in_ok-judging.ensures
+      c.in_ok-js.ensures ∙ judged-each c.args.a.now.value c.as_slice-all.result.now (told_of c.in_ok-judging.judging.whys)
+      (rw c.in_ok-units.ensures at c.in_ok-judging.ensures)
       ∙ ap (map (judged c.args.a.now.value)) c.as_slice-all.ensures.value;
 }

@@ -1,7 +1,7 @@
-use Rattle.std.proofs.Common.{◌≡◌, ◌≤◌, [], length, take, refl, ap, arith, rules}
+use Rattle.std.proofs.Common.{◌≡◌, ◌≤◌, [], length, take, refl, sym, ap, arith, rules}
 use Rattle.std.specs.List.{list_any}
 use Rattle.analysis.specs.Below.scope_bind.Bound.{Bound}
-use Rattle.analysis.proofs.OneUnitLemmas.{bound_of_unit, unit_of_text}
+use Rattle.analysis.proofs.OneUnitLemmas.{unit_of_number}
 use Rattle.unseen_names.specs.Groups.{in_unit}
 use Rattle.unseen_names.proofs.CharacterLemmas.{adds_all, adds_none, from_blank}
 use Rattle.unseen_names.proofs.ProcessedLemmas.{names_more}
@@ -14,11 +14,11 @@ pub loop-unit-preserved : goal.loop-unit-preserved
 loop-unit-preserved c =
     let units = c.args.a.now.value.units in
     let n = c.loop-unit.unit in
-    let u = unit_of_text units n c.text.result.now c.text.ensures in
-    let names : u.0.bound.names ≡ c.bound.result.now.names =
-    ap (λ (b : Bound). b.names) (bound_of_unit units n u.0 c.bound.result.now u.1 c.bound.ensures) in
-    names_more units n u.0 u.1 c.new-marks.result.items c.loop-unit.marks.items c.mark_unit.new.marks.items c.args.group c.text.result.now
-    c.bound.result.now.names u.2 names c.loop-unit.invariant c.in_ok-mark_unit.ensures
+    let u = c.in_ok-one.one in
+    let at = unit_of_number units n u c.in_ok-one.ensures in
+    let names = sym (ap (λ (b : Bound). b.names) c.bound.ensures) in
+    names_more units n u at c.new-marks.result.items c.loop-unit.marks.items c.mark_unit.new.marks.items c.args.group c.text.result.now
+    c.bound.result.now.names (sym c.text.ensures) names c.loop-unit.invariant c.in_ok-mark_unit.ensures
 
 pub returns : goal.returns
 returns c =

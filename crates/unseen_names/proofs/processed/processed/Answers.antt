@@ -1,6 +1,6 @@
-use Rattle.std.proofs.Common.{◌≡◌, ◌≤◌, [], length, take, refl, arith, rules}
+use Rattle.std.proofs.Common.{◌≡◌, ◌≤◌, [], length, take, refl, sym, arith, rules}
 use Rattle.std.specs.List.{list_any}
-use Rattle.analysis.proofs.OneUnitLemmas.{unit_of_text}
+use Rattle.analysis.proofs.OneUnitLemmas.{unit_of_number}
 use Rattle.unseen_names.specs.Unseen.{is_in_unit}
 use Rattle.unseen_names.proofs.CharacterLemmas.{adds_all, adds_none, from_blank}
 use Rattle.unseen_names.proofs.ProcessedLemmas.{unit_more}
@@ -12,9 +12,9 @@ loop-unit-init c = adds_none (λ p. list_any (is_in_unit p) (take 0 c.args.a.now
 pub loop-unit-preserved : goal.loop-unit-preserved
 loop-unit-preserved c =
     let units = c.args.a.now.value.units in
-    let u = unit_of_text units c.loop-unit.unit c.text.result.now c.text.ensures in
-    unit_more units c.loop-unit.unit u.0 u.1 c.new-marks.result.items c.loop-unit.marks.items c.mark_tokens.new.marks.items c.text.result.now
-    c.toks.result.now u.2 c.toks.ensures c.loop-unit.invariant c.in_ok-mark_tokens.ensures
+    let u = c.in_ok-one.one in
+    unit_more units c.loop-unit.unit u (unit_of_number units c.loop-unit.unit u c.in_ok-one.ensures) c.new-marks.result.items c.loop-unit.marks.items c.mark_tokens.new.marks.items c.text.result.now
+    c.toks.result.now (sym c.text.ensures) c.toks.ensures c.loop-unit.invariant c.in_ok-mark_tokens.ensures
 
 pub returns : goal.returns
 returns c =

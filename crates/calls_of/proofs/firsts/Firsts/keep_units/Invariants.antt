@@ -6,4 +6,4 @@ use Rattle.calls_of.proofs.firsts.Firsts.keep_units.Given as goal
 
 abbrev pub invariant-loop-i : goal.invariant-loop-i
 invariant-loop-i l =
-    UnitsTo (names_of_units (drop l.i l.units) (drop l.i l.a.value.units)) (names_of_units l.units l.a.value.units) (first_at l.initial.self.toks) (first_at l.self.toks)
+    UnitsTo (names_of_units (drop l.i l.units) (drop l.i l.all)) (names_of_units l.units l.all) (first_at l.initial.self.toks) (first_at l.self.toks)

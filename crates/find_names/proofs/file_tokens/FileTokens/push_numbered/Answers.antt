@@ -5,7 +5,7 @@ use Rattle.find_names.proofs.file_tokens.FileTokens.push_numbered.Goals as goal
 
 pub returns-in-Some : goal.returns-in-Some
 returns-in-Some c =
-    rw (← c.in-Some.ensures) c.push_file.ensures
+    rw (← c.in-Some.ensures) c.push_whole.ensures
 
 pub returns-in-None : goal.returns-in-None
 returns-in-None c =

@@ -8,4 +8,4 @@ unfolding files_opened bytes_opened
 empty t h = rw h (record { counted = refl; measured = refl; few_files = omega arith; few_bytes = omega arith; few_toks = omega arith })
 
 pub invariant_of-result : goal.invariant_of-result
-invariant_of-result c = empty c.new.result c.new.ensures
+invariant_of-result c = empty c.in_ok-table.table c.in_ok-table.ensures

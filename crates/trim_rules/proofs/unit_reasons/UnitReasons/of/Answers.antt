@@ -1,19 +1,16 @@
-use Rattle.std.proofs.Common.{◌-◌, ◌∙◌, List, ap, length, refl, slice_get}
+use Rattle.std.proofs.Common.{◌∙◌, List, ap, length, refl}
 use Rattle.cs_base.specs.Token.{Token}
-use Rattle.analysis.specs.Analysis.{UnitAnalysis}
 use Rattle.trim_rules.specs.Held.{pragmas_of}
-use Rattle.trim_rules.proofs.HeldLemmas.{told-unit, reasons-of}
+use Rattle.trim_rules.proofs.HeldLemmas.{reasons-of}
 use Rattle.trim_rules.proofs.unit_reasons.UnitReasons.of.Goals as goal
 
 pub returns-clause-own : goal.returns-clause-own
-returns-clause-own c = λ u at.
+returns-clause-own c =
     let a = c.args.a.now.value in
     let text = c.text-text.result.now in
     let tree = c.in_ok-tree.tree in
     let bound = c.bound-bound.result.now in
-    let o = slice_get a.units (c.args.unit - 1) in
-    reasons-of a.table u _ text tree bound (told-unit (λ (x : UnitAnalysis). x.text) o u text at c.text-text.ensures)
-    (told-unit (λ (x : UnitAnalysis). x.tree) o u tree at c.in_ok-tree.ensures) (told-unit (λ (x : UnitAnalysis). x.bound) o u bound at c.bound-bound.ensures)
+    reasons-of a.table c.args.unit.now _ text tree bound c.text-text.ensures c.in_ok-tree.ensures c.bound-bound.ensures
     refl (c.in_ok-count.ensures.answer ∙ ap (λ (ts : List Token). length ts) c.toks.ensures) c.in_ok-edges.ensures c.in_ok-defining.ensures
     (c.in_ok-pragmas.ensures ∙ ap (pragmas_of a.table) c.reached.ensures) c.in_ok-mentions.ensures
 

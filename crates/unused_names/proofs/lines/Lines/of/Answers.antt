@@ -1,6 +1,6 @@
-use Rattle.std.proofs.Common.{◌≡◌, ℕ, length, ap, subst, arith}
+use Rattle.std.proofs.Common.{◌≡◌, ℕ, length, sym, ap, subst, arith}
 use Rattle.analysis.specs.Below.scope_bind.Bound.{Bound}
-use Rattle.analysis.proofs.OneUnitLemmas.{bound_of_unit, unit_of_text}
+use Rattle.analysis.proofs.OneUnitLemmas.{unit_of_number}
 use Rattle.unused_names.specs.Lines.{AreLines, lines_in}
 use Rattle.unused_names.proofs.LineLemmas.{end_of_unit, no_lines}
 use Rattle.unused_names.proofs.lines.Lines.of.Goals as goal
@@ -13,13 +13,13 @@ pub loop-unit-preserved : goal.loop-unit-preserved
 loop-unit-preserved c =
     let units = c.args.a.now.value.units in
     let n = c.loop-unit.unit in
-    let text = c.text.result.now in
     let new = c.push_unit.new.self in
-    let u = unit_of_text units n text c.text.ensures in
-    let names : u.0.bound.names ≡ c.bound.result.now.names =
-    ap (λ (b : Bound). b.names) (bound_of_unit units n u.0 c.bound.result.now u.1 c.bound.ensures) in
-    let now = c.in_ok-push_unit.ensures.goes_on units n u.0 u.1 u.2 names c.loop-unit.invariant in
-    end_of_unit units n u.0 (lines_in new.all.items new.needed) u.1 (rw u.2 now)
+    let u = c.in_ok-one.one in
+    let at = unit_of_number units n u c.in_ok-one.ensures in
+    let text = sym c.text.ensures in
+    let names = sym (ap (λ (b : Bound). b.names) c.bound.ensures) in
+    let now = c.in_ok-push_unit.ensures.goes_on units n u at text names c.loop-unit.invariant in
+    end_of_unit units n u (lines_in new.all.items new.needed) at (rw text now)
 
 pub returns : goal.returns
 returns c =

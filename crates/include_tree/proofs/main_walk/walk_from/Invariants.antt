@@ -1,0 +1,27 @@
+use Rattle.std.proofs.Common.{◌≡◌, drop}
+use Rattle.std.specs.Prelude.{IfSome}
+use Rattle.source_files.specs.Answers.{ReadsOn}
+use Rattle.source_files.specs.Files.{Source}
+use Rattle.source_files.specs.Sources.{source_at}
+use Rattle.source_files.specs.Tables.{AreFound}
+use Rattle.unit_steps.specs.Keeping.{put_after}
+use Rattle.unit_steps.specs.Moments.{state_in, IsAble}
+use Rattle.include_tree.specs.GivenFiles.{unit_context}
+use Rattle.include_tree.specs.Leads.{rest_at}
+use Rattle.include_tree.specs.Walk.{items_in, walk}
+use Rattle.include_tree.specs.Walking.{inner_in}
+use Rattle.include_tree.proofs.main_walk.walk_from.Given as goal
+
+-- The items that are left give what those from the first one on give.
+abbrev pub invariant-loop-k : goal.invariant-loop-k
+invariant-loop-k g l = record {
+  told : g.F.Files.told l.files ≡ g.F.Files.told l.fn.files;
+  rest : (source : Source) → AreFound source l.cache.table → IfSome (source_at l.fn.cache.table l.main) (λ file.
+      rest_at (unit_context source l.unit l.fn.cache.toks) file l.from (state_in l.fn.cache.table l.fn.p) l.fn.p.text
+      ≡ put_after l.p.text (walk (unit_context source l.unit l.fn.cache.toks) (inner_in (unit_context source l.unit l.fn.cache.toks) 199) file l.k
+      (drop l.k (items_in file)) l.sections (state_in l.cache.table l.p)));
+  same : source_at l.cache.table l.main ≡ source_at l.fn.cache.table l.main;
+  able : IsAble l.p;
+  most : l.p.most ≡ l.fn.p.most;
+  cache : ReadsOn (g.F.Files.told l.fn.files).held l.fn.cache l.cache;
+}

@@ -1,0 +1,1 @@
+MANY(extern int NAME;)

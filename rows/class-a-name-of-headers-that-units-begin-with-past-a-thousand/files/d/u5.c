@@ -1,0 +1,3 @@
+#include "big.h"
+#include "next.h"
+int five(void) { return NAME + first; }

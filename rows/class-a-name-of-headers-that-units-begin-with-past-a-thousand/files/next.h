@@ -1,0 +1,4 @@
+#ifndef NEXT
+#define NEXT
+MANY(extern int c[sizeof NAME];)
+#endif

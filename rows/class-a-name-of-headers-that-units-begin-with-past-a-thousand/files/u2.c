@@ -1,0 +1,3 @@
+#include "big.h"
+#include "next.h"
+int two(void) { return a + *b; }

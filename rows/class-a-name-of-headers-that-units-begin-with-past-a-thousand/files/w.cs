@@ -1,0 +1,11 @@
+project p
+ipath .
+file u1.c
+file u2.c
+file u3.c
+file u4.c
+file d/u5.c
+project q
+ipath .
+define LATER
+file u6.c

@@ -1,0 +1,1 @@
+int k(void) { return gone(1); }

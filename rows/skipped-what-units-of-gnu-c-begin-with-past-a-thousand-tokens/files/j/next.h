@@ -1,0 +1,2 @@
+enum { NEXT = __COUNTER__ };
+#define TOLD

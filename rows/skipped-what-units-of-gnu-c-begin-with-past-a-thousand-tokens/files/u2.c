@@ -1,0 +1,7 @@
+#include "big.h"
+#include <next.h>
+#if __COUNTER__ == 3
+int right;
+#else
+int wrong;
+#endif

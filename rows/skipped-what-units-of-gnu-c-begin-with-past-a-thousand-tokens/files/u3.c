@@ -1,0 +1,8 @@
+#include "big.h"
+#include <next.h>
+#include "big.h"
+#if __COUNTER__ == 3
+int right;
+#else
+int wrong;
+#endif

@@ -1,0 +1,13 @@
+project p
+standard gnu11
+ipath i
+ipath j
+file u1.c
+file u2.c
+file u3.c
+file u4.c
+project q
+standard gnu99
+ipath j
+ipath i
+file u1.c

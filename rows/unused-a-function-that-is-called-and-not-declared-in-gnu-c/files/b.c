@@ -1,0 +1,2 @@
+int g(int x) { return x; }
+int unused_one(void) { return 0; }
