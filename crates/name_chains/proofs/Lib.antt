@@ -3,6 +3,7 @@ mod KeptLemmas
 mod SpellingLemmas
 mod ChainLemmas
 mod LinkedLemmas
+mod LinkLemmas
 mod ChainedMore
 mod ChainedOver
 mod ChainTables

@@ -1,5 +1,5 @@
 // Declarations with a key, each of which leads to the one before it.
-ghost use Rattle.std.specs.Prelude.{◌≡◌, ◌<◌, ℕ, length, get_or, OnOk};
+ghost use Rattle.std.specs.Prelude.{◌≡◌, ◌<◌, ◌≤◌, ℕ, length, get_or, IfOk, OnOk};
 ghost use Rattle.name_chains.specs.Links.{no_links, with_link, TellsSame, HasRoom};
 
 use cs_base::Memory;
@@ -22,6 +22,18 @@ impl Model for Links {
     ghost view = { λ l. record { before = l.before.items; newest = l.newest.items } };
 }
 
+// How many places there are to be: more than the index, and twice as many as there were.
+fn room_for(len: usize, at: usize) -> Result<usize, Memory>
+    requires { len ≤ at }
+    ensures { IfOk result (λ count. (at < count) × (len ≤ count)) }
+{
+    match at.checked_add(len) {
+        Some(places) if places < usize::MAX => Ok(places + 1),
+        _ => Err(Memory),
+    }
+}
+
+#[tactic(auto, using(crate::proofs::LinkLemmas::tells_same))]
 // Room for a place at the index, where none is told.
 fn grow(places: &mut Vec<usize>, at: usize) -> Result<(), Memory>
     ensures same { (k : ℕ) → get_or places.new.items k 0 ≡ get_or places.old.items k 0 }
@@ -31,10 +43,8 @@ fn grow(places: &mut Vec<usize>, at: usize) -> Result<(), Memory>
     if at < len {
         return Ok(());
     }
-    'room: for k in len..at {
-        places.push(0)?;
-    }
-    places.push(0)?;
+    let count = room_for(len, at)?;
+    places.resize(count, 0)?;
     Ok(())
 }
 
