@@ -17,15 +17,20 @@ fn is_alike(a: &Tok, b: &Tok) -> bool {
     a.kind() == b.kind() && a.text() == b.text()
 }
 
-// How many tokens the two begin with.
-fn common(a: &[Tok], b: &[Tok]) -> usize {
+// How many tokens the two begin with, if they do so with the first `from`.
+fn common(a: &[Tok], b: &[Tok], from: usize) -> usize {
     let count = a.len().min(b.len());
-    'tokens: for k in 0..count {
+    'tokens: for k in from..count {
         if !is_alike(&a[k], &b[k]) {
             return k;
         }
     }
     count
+}
+
+// The number is that of many tokens behind the first ones.
+fn is_worth(count: usize, known: usize) -> bool {
+    count >= WORTH && count - WORTH >= known
 }
 
 // The token is one of these bytes.
@@ -121,32 +126,31 @@ fn end_of(front: Option<&UnitFront>) -> usize {
     }
 }
 
-/// What these tokens have in common with others by the same standard is kept, where it is worth it: no front has it but for
-/// some tokens.
+/// A front of what these tokens have in common with others by the same standard, where it is worth it: the longest one with
+/// which they begin does not have it but for some tokens.
 pub(crate) fn learn(
     alloc: Global,
-    fronts: &mut Vec<UnitFront>,
+    known: Option<&UnitFront>,
     before: &[Tok],
     toks: &[Tok],
     standard: Standard,
-) -> Result<(), Memory> {
-    let count = common(before, toks);
-    let known = end_of(front_of(fronts.as_slice(), toks, standard));
-    if count < WORTH || count - WORTH < known {
-        return Ok(());
+) -> Result<Option<UnitFront>, Memory> {
+    let known = end_of(known);
+    // Most units have nothing more in common than what is known, so they are compared from there on first.
+    if !is_worth(common(before, toks, known), known) {
+        return Ok(None);
     }
+    let count = common(before, toks, 0);
     let end = last_end(toks, count);
-    if end < WORTH || end - WORTH < known || toks.len() > u32::MAX as usize {
-        return Ok(());
+    if !is_worth(count, known) || !is_worth(end, known) || toks.len() > u32::MAX as usize {
+        return Ok(None);
     }
     let seen = copies(alloc, toks, end.saturating_add(2))?;
-    match UnitFront::of(alloc, seen, end, standard)? {
-        Some(front) => keep(fronts, front),
-        None => Ok(()),
-    }
+    UnitFront::of(alloc, seen, end, standard)
 }
 
-fn keep(fronts: &mut Vec<UnitFront>, front: UnitFront) -> Result<(), Memory> {
+/// A front more.
+pub(crate) fn keep(fronts: &mut Vec<UnitFront>, front: UnitFront) -> Result<(), Memory> {
     if fronts.len() >= MOST {
         fronts.remove(0);
     }

@@ -1,5 +1,5 @@
 // A unit that is preprocessed, read and bound; and its refusals.
-ghost use Rattle.std.specs.Prelude.{◌≡◌, IfErr};
+ghost use Rattle.std.specs.Prelude.{◌≡◌, IfErr, IfSome};
 ghost use Rattle.std.specs.Option.{option_map};
 ghost use Rattle.cs_base.specs.Answer.{Gives, result_map_err};
 ghost use Rattle.c99_read.specs.Answer.{stop_of};
@@ -16,7 +16,7 @@ ghost use Rattle.c99_read.specs.Fronts.{BeginsWith};
 use crate::accepted::UnitParts;
 use crate::analyse_fault::AnalyseFault;
 use crate::fault_places::place_of_index;
-use crate::fronts::{front_of, learn};
+use crate::fronts::{front_of, keep, learn};
 use crate::reading::{read_toks, read_toks_from};
 use crate::unit_fronts::UnitFront;
 use c99_read::ReadRefusal;
@@ -42,37 +42,42 @@ pub(crate) fn read_text(
     ensures answer { Gives (λ u. u) fault_of result (result_map_err (unit_fault number) (read_unit standard cache.now.table path.now text)) }
     ensures no_read { IfErr result IsNoReadFault }
 {
-    match learn_of(alloc, fronts, before, text.toks(), standard) {
-        Ok(()) => read_known(
-            alloc,
-            cache,
-            fronts.as_slice(),
-            number,
-            standard,
-            path,
-            text,
-        ),
+    let known = front_of(fronts.as_slice(), text.toks(), standard);
+    match learn_of(alloc, known, before, text.toks(), standard) {
+        Ok(None) => read_on(alloc, cache, known, number, standard, path, text),
+        Ok(Some(front)) => match keep(fronts, front) {
+            Ok(()) => read_known(
+                alloc,
+                cache,
+                fronts.as_slice(),
+                number,
+                standard,
+                path,
+                text,
+            ),
+            Err(_) => Err(AnalyseFault::Memory),
+        },
         Err(_) => Err(AnalyseFault::Memory),
     }
 }
 
-// What the tokens have in common with the unit before is kept.
+// What the tokens have in common with the unit before, where it is worth it.
 fn learn_of(
     alloc: Global,
-    fronts: &mut Vec<UnitFront>,
+    known: Option<&UnitFront>,
     before: Option<&UnitParts>,
     toks: &[Tok],
     standard: Standard,
-) -> Result<(), Memory> {
+) -> Result<Option<UnitFront>, Memory> {
     match before {
         Some(unit) => {
             if unit.standard() == standard {
-                learn(alloc, fronts, unit.text().toks(), toks, standard)
+                learn(alloc, known, unit.text().toks(), toks, standard)
             } else {
-                Ok(())
+                Ok(None)
             }
         }
-        None => Ok(()),
+        None => Ok(None),
     }
 }
 
@@ -89,7 +94,25 @@ pub(crate) fn read_known(
     ensures answer { Gives (λ u. u) fault_of result (result_map_err (unit_fault number) (read_unit standard cache.now.table path.now text)) }
     ensures no_read { IfErr result IsNoReadFault }
 {
-    match front_of(fronts, text.toks(), standard) {
+    let front = front_of(fronts, text.toks(), standard);
+    read_on(alloc, cache, front, number, standard, path, text)
+}
+
+// Reads the text, which begins with the front, if there is one.
+fn read_on(
+    alloc: Global,
+    cache: &Cache,
+    front: Option<&UnitFront>,
+    number: u32,
+    standard: Standard,
+    path: &[u8],
+    text: UnitText,
+) -> Result<UnitParts, AnalyseFault>
+    requires begins { IfSome front (λ f. (f.now.standard ≡ standard) × BeginsWith text.toks f.now.reading) }
+    ensures answer { Gives (λ u. u) fault_of result (result_map_err (unit_fault number) (read_unit standard cache.now.table path.now text)) }
+    ensures no_read { IfErr result IsNoReadFault }
+{
+    match front {
         Some(front) => read_behind(alloc, cache, front, number, standard, path, text),
         None => read_whole(alloc, cache, number, standard, path, text),
     }
