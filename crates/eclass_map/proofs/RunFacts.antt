@@ -1,11 +1,13 @@
 -- Positions as runs of neighbours.
-use Rattle.std.proofs.Common.{◌≡◌, ℕ, ◌+◌, ◌-◌, ◌<◌, ◌≤◌, ◌^◌, List, [], ◌∷◌, ◌++◌, zero, suc, length, get_or, drop, refl, ap, sym, subst, ◌∙◌, arith, append_assoc, length-append, Some}
+use Rattle.std.proofs.Common.{◌≡◌, ℕ, ◌+◌, ◌-◌, ◌<◌, ◌≤◌, ◌^◌, List, [], ◌∷◌, ◌++◌, zero, suc, length, get_or, drop, refl, ap, sym, subst, ◌∙◌, arith, append_assoc, length-append, Some, inl, inr}
 use Rattle.std.specs.Prelude.{slice_get}
 use Rattle.std.proofs.lemmas.List.{append-nil, drop_all}
-use Rattle.std.proofs.lemmas.Option.{get_or_from_slice_get}
+use Rattle.std.proofs.lemmas.Bool.{cases_lt}
+use Rattle.std.proofs.lemmas.Option.{get_or_from_slice_get, slice_get_within}
 use Rattle.cs_base.specs.declared.positions.Pos.{Pos}
 use Rattle.cs_base.proofs.ListLemmas.{get-front as slice_get-append_left}
 use Rattle.eclass_map.specs.declared.places.Run.{Run}
+use Rattle.eclass_map.specs.declared.token_list.Added.{Added}
 use Rattle.eclass_map.specs.Positions.{along}
 use Rattle.eclass_map.specs.ClassTable.{fresh_places, nowhere}
 use Rattle.eclass_map.specs.Places.{no_run, next_first, places_of, AreRuns}
@@ -125,3 +127,28 @@ pub fresh_one : (p : Pos) → fresh_places p 1 ≡ p ∷ []
 fresh_one p =
     let e : p.at + 0 ≡ p.at = omega arith in
     fresh_places_more p 0 ∙ ap (λ v. v ++ along p 0 ∷ []) (fresh_places_none p) ∙ (λ i. record { file = p.file; at = e i } ∷ [])
+
+-- ---- a run for each token
+
+-- the positions of the first n tokens stand in the list
+abbrev pub ArePlacedTo : ℕ → List Added → List Pos → Type 0
+ArePlacedTo n tokens places = (k : ℕ) (r : Added) (o : ℕ) → k < n → slice_get tokens k ≡ Some r → o < r.place.len
+    → slice_get places (r.first + o) ≡ Some (along r.place.start o)
+
+-- those of the next one too, where its characters have the numbers that come next
+pub placed_more : (n : ℕ) (t : Added) (tokens : List Added) (places : List Pos) → ArePlacedTo n tokens places → slice_get tokens n ≡ Some t
+    → t.first ≡ length places → ArePlacedTo (n + 1) tokens (places ++ fresh_places t.place.start t.place.len)
+placed_more n t tokens places before here first k r o below at within = elim (cases_lt k n) [
+  | inl less ↦
+      let was = before k r o less at within in
+      slice_get-append_left places (fresh_places t.place.start t.place.len) (r.first + o) (slice_get_within places (r.first + o) _ was) ∙ was
+  | inr least ↦
+      let last : k ≡ n = omega (arith, least, below) in
+      let P : Added → Type 0 = λ v. slice_get (places ++ fresh_places t.place.start t.place.len) (v.first + o) ≡ Some (along v.place.start o) in
+      let is : Some t ≡ Some r = sym here ∙ ap (slice_get tokens) (sym last) ∙ at in
+      let same : t ≡ r = cc in
+      let Q : Added → Type 0 = λ v. o < v.place.len in
+      let inside : o < t.place.len = subst Q (sym same) within in
+      subst P same (slice_get-append_right places (fresh_places t.place.start t.place.len) (t.first + o) o (omega (arith, first))
+      ∙ fresh_places-at t.place.start t.place.len o inside)
+]

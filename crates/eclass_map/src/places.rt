@@ -1,5 +1,5 @@
 // The positions of characters by their numbers: those that are neighbours in a file are told by the first of them.
-ghost use Rattle.std.specs.Prelude.{ℕ, ◌≡◌, ◌+◌, ◌^◌, ◌<◌, ◌≤◌, ◌++◌, ◌∷◌, [], length, drop, slice_get, slice_index_or, Some, IfOk, IsTrue, OnOk};
+ghost use Rattle.std.specs.Prelude.{ℕ, ◌≡◌, ◌+◌, ◌^◌, ◌<◌, ◌≤◌, ◌++◌, ◌∷◌, [], length, drop, slice_get, slice_index_or, Some, IfOk, IfSome, IsTrue, OnOk};
 ghost use Rattle.eclass_map.specs.ClassTable.{fresh_places, nowhere};
 ghost use Rattle.eclass_map.specs.Places.{next_first, no_run, AreRuns};
 ghost use Rattle.eclass_map.specs.Settled.{AreApart, ArePlaced, Fits};
@@ -138,8 +138,32 @@ pub fn place_runs(alloc: Global, tokens: &[Added], count: u32) -> Result<Places,
     ensures long { IfOk result (λ p. length p.list ≡ count) }
     ensures placed { IfOk result (λ p. ArePlaced tokens.now p.list) }
 {
-    let positions = place_tokens(alloc, tokens, count)?;
-    listed(alloc, positions.as_slice())
+    match runs_of(alloc, tokens, count)? {
+        Some(places) => Ok(places),
+        None => listed(alloc, &place_tokens(alloc, tokens, count)?),
+    }
+}
+
+// The same, each token a run; none where the numbers of their characters do not follow one another.
+fn runs_of(alloc: Global, tokens: &[Added], count: u32) -> Result<Option<Places>, Memory>
+    requires within { (k : ℕ) (r : Added) → slice_get tokens.now k ≡ Some r → r.first + r.place.len ≤ count }
+    requires fits { Fits tokens.now }
+    ensures { IfOk result (λ found. IfSome found (λ p. (length p.list ≡ count) × ArePlaced tokens.now p.list)) }
+{
+    let mut places = Places::new(alloc);
+    for k in 0..tokens.len() {
+        let token = tokens[k];
+        if token.first != places.len() {
+            return Ok(None);
+        }
+        places.reserve()?;
+        places.push(token.place.start, token.place.len);
+    }
+    if places.len() == count {
+        Ok(Some(places))
+    } else {
+        Ok(None)
+    }
 }
 
 // These positions, each a run.
