@@ -54,19 +54,44 @@ fn link_stays(moves: &Moves, link: &Link) -> bool
 pub fn renamed_tok(alloc: Global, moves: &Moves, tok: &Tok) -> Result<Tok, Memory>
     ensures { IfOk result (λ t. t ≡ renamed_token (renaming_by moves.now) tok.now) }
 {
+    renamed_over(
+        alloc,
+        moves,
+        tok,
+        &mut Vec::new(alloc),
+        &mut Vec::new(alloc),
+    )
+}
+
+// The same; new characters and their origins are put into these lists, which many tokens can share.
+fn renamed_over(
+    alloc: Global,
+    moves: &Moves,
+    tok: &Tok,
+    text: &mut Vec<u8>,
+    origins: &mut Vec<Option<Pos>>,
+) -> Result<Tok, Memory>
+    ensures { IfOk result (λ t. t ≡ renamed_token (renaming_by moves.now) tok.now) }
+{
     if are_still(moves, tok, tok.text()) {
         return tok.share(tok.gap(), moves.moved(tok.at()), tok.line(), tok.direct());
     }
-    respelled_tok(alloc, moves, tok)
+    respelled_tok(alloc, moves, tok, text, origins)
 }
 
 // The same, of new characters.
-fn respelled_tok(alloc: Global, moves: &Moves, tok: &Tok) -> Result<Tok, Memory>
+fn respelled_tok(
+    alloc: Global,
+    moves: &Moves,
+    tok: &Tok,
+    text: &mut Vec<u8>,
+    origins: &mut Vec<Option<Pos>>,
+) -> Result<Tok, Memory>
     ensures { IfOk result (λ t. t ≡ renamed_token (renaming_by moves.now) tok.now) }
 {
-    let mut text = Vec::new(alloc);
-    let mut origins = Vec::new(alloc);
-    respell(moves, tok, tok.text(), &mut text, &mut origins)?;
+    text.clear();
+    origins.clear();
+    respell(moves, tok, tok.text(), text, origins)?;
     tok_of(
         alloc,
         tok,
@@ -196,8 +221,10 @@ pub fn renamed_toks(alloc: Global, moves: &Moves, toks: &[Tok]) -> Result<Vec<To
     ensures { IfOk result (λ r. r.items ≡ map (renamed_token (renaming_by moves.now)) toks.now) }
 {
     let mut renamed = Vec::with_capacity(alloc, toks.len())?;
+    let mut text = Vec::new(alloc);
+    let mut origins = Vec::new(alloc);
     for tok in toks {
-        renamed.push(renamed_tok(alloc, moves, tok)?)?;
+        renamed.push(renamed_over(alloc, moves, tok, &mut text, &mut origins)?)?;
     }
     Ok(renamed)
 }
@@ -207,17 +234,25 @@ pub fn renamed_links(alloc: Global, moves: &Moves, links: &[Link]) -> Result<Vec
     ensures { IfOk result (λ r. r.items ≡ map (renamed_link (renaming_by moves.now)) links.now) }
 {
     let mut renamed = Vec::with_capacity(alloc, links.len())?;
+    let mut text = Vec::new(alloc);
+    let mut origins = Vec::new(alloc);
     for link in links {
-        renamed.push(renamed_one(alloc, moves, link)?)?;
+        renamed.push(renamed_one(alloc, moves, link, &mut text, &mut origins)?)?;
     }
     Ok(renamed)
 }
 
-fn renamed_one(alloc: Global, moves: &Moves, link: &Link) -> Result<Link, Memory>
+fn renamed_one(
+    alloc: Global,
+    moves: &Moves,
+    link: &Link,
+    text: &mut Vec<u8>,
+    origins: &mut Vec<Option<Pos>>,
+) -> Result<Link, Memory>
     ensures { IfOk result (λ l. l ≡ renamed_link (renaming_by moves.now) link.now) }
 {
     Ok(Link {
-        x: renamed_tok(alloc, moves, &link.x)?,
-        y: renamed_tok(alloc, moves, &link.y)?,
+        x: renamed_over(alloc, moves, &link.x, text, origins)?,
+        y: renamed_over(alloc, moves, &link.y, text, origins)?,
     })
 }

@@ -54,9 +54,15 @@ pub(crate) fn are_still(moves: &Moves, tok: &Tok, chars: &[u8]) -> bool
     requires sound { IsToken tok.now }
     ensures { IsTrue result → AreStill moves.now tok.now.origins tok.now.text }
 {
-    if is_calm_tok(moves, tok, chars) {
-        return true;
-    }
+    is_calm_tok(moves, tok, chars) || is_each_still(moves, tok, chars)
+}
+
+// The same, where each is looked at.
+fn is_each_still(moves: &Moves, tok: &Tok, chars: &[u8]) -> bool
+    requires same { chars.now ≡ tok.now.text }
+    requires sound { IsToken tok.now }
+    ensures { IsTrue result → AreStill moves.now tok.now.origins tok.now.text }
+{
     for k in 0..chars.len() {
         if !is_still(moves, tok.origins(k as u32)) {
             return false;

@@ -1,6 +1,6 @@
 use Rattle.std.proofs.Common.{◌≡◌, ◌<◌, length, get_or, refl, ap, arith}
 use Rattle.offences.proofs.StillLemmas.{still_end, still_more}
-use Rattle.offences.proofs.still_toks.are_still.Goals as goal
+use Rattle.offences.proofs.still_toks.is_each_still.Goals as goal
 
 pub loop-k-preserved : goal.loop-k-preserved
 loop-k-preserved c =
