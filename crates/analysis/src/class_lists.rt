@@ -7,7 +7,7 @@ ghost use Rattle.analysis.specs.Listing.{AreOfClass};
 
 use crate::accepted::Accepted;
 use crate::listed::Lists;
-use crate::place_order::sort;
+use crate::place_order::{ranks, sort};
 use cs_base::{Memory, Part};
 use eclass_map::Classes;
 use std::alloc::Global;
@@ -17,21 +17,28 @@ pub(crate) fn lists(alloc: Global, a: &Accepted, classes: &Classes) -> Result<Li
     requires { AreItsClasses a.now classes.now }
     ensures { IfOk result (λ l. AreLists a.now classes.now l) }
 {
+    let ranks = ranks(alloc, a)?;
     let mut lists = Lists::new(alloc);
     for class in 0..classes.class_numbers() {
-        let parts = parts_of(alloc, a, classes, class)?;
+        let parts = parts_of(alloc, a, &ranks, classes, class)?;
         lists.push(&parts)?;
     }
-    lists.sort_firsts(a)?;
+    lists.sort_firsts(a, &ranks)?;
     Ok(lists)
 }
 
 // The parts of a class, in the order of their places.
-fn parts_of(alloc: Global, a: &Accepted, classes: &Classes, class: u32) -> Result<Vec<Part>, Memory>
+fn parts_of(
+    alloc: Global,
+    a: &Accepted,
+    ranks: &[usize],
+    classes: &Classes,
+    class: u32,
+) -> Result<Vec<Part>, Memory>
     requires { HasParts classes.now }
     ensures { IfOk result (λ parts. AreOfClass a.now classes.now class parts.items) }
 {
     let mut parts = classes.members(alloc, class)?;
-    sort(a, &mut parts)?;
+    sort(a, ranks, &mut parts)?;
     Ok(parts)
 }

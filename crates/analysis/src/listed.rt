@@ -48,12 +48,12 @@ impl Lists {
     }
 
     // Puts the first members into the order of their places.
-    pub(crate) fn sort_firsts(&mut self, a: &Accepted) -> Result<(), Memory>
+    pub(crate) fn sort_firsts(&mut self, a: &Accepted, ranks: &[usize]) -> Result<(), Memory>
         ensures members { self.new.members ≡ self.old.members }
         ensures moved { IsPermutation self.old.firsts self.new.firsts }
         ensures sorted { OnOk result (IsStrictlySortedBy (part_cmp a.now) self.new.firsts) }
     {
-        sort(a, &mut self.firsts)
+        sort(a, ranks, &mut self.firsts)
     }
 
     /// The members of the class with this number, in the order of their places. Takes no memory.

@@ -17,7 +17,10 @@ pub(crate) fn each_once(alloc: Global, mut brought: Vec<Tok>) -> Result<Vec<Tok>
 
 // The file and the character at which a token begins.
 fn start_of(tok: &Tok) -> (u32, u32) {
-    let start = span(tok).start;
+    let start = match tok.start() {
+        Some(start) => start,
+        None => span(tok).start,
+    };
     (start.file, start.at)
 }
 

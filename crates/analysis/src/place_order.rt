@@ -7,6 +7,7 @@ ghost use Rattle.analysis.specs.Places.{path_at, place_cmp};
 
 use crate::accepted::Accepted;
 use cs_base::{Memory, Part, Pos};
+use std::alloc::Global;
 use std::cmp::Ordering;
 
 // The path that has a number.
@@ -56,12 +57,43 @@ fn are_in_order(a: &Accepted, parts: &[Part]) -> bool
     true
 }
 
-/// Puts parts into the order of their places. No two may stand at one place, which is tested.
-pub(crate) fn sort(a: &Accepted, parts: &mut Vec<Part>) -> Result<(), Memory>
+// The numbers of all files, in the order of their paths.
+fn by_path(alloc: Global, a: &Accepted) -> Result<Vec<u32>, Memory> {
+    let mut numbers = Vec::new(alloc);
+    for number in 0..a.files() {
+        numbers.push(number)?;
+    }
+    numbers.sort_by(|number, other| path_of(a, *number).cmp(path_of(a, *other)))?;
+    Ok(numbers)
+}
+
+/// For each file how many have a path before its own. Guesses: no contract rests on them, and `sort` tests what it makes of
+/// them.
+pub(crate) fn ranks(alloc: Global, a: &Accepted) -> Result<Vec<usize>, Memory> {
+    let numbers = by_path(alloc, a)?;
+    let mut ranks = vec![in alloc; 0; numbers.len()]?;
+    for k in 0..numbers.len() {
+        let number = numbers[k] as usize;
+        if number < ranks.len() {
+            ranks[number] = k;
+        }
+    }
+    Ok(ranks)
+}
+
+// The rank of the file of a part, and the character at which it begins.
+fn place_of(ranks: &[usize], part: &Part) -> (usize, u32) {
+    let file = part.start.file as usize;
+    let rank = if file < ranks.len() { ranks[file] } else { 0 };
+    (rank, part.start.at)
+}
+
+/// Puts parts into the order of their places, by the ranks of their files. No two may stand at one place, which is tested.
+pub(crate) fn sort(a: &Accepted, ranks: &[usize], parts: &mut Vec<Part>) -> Result<(), Memory>
     ensures moved { IsPermutation parts.old.items parts.new.items }
     ensures sorted { OnOk result (IsStrictlySortedBy (part_cmp a.now) parts.new.items) }
 {
-    parts.sort_by(|part, other| compare(a, part.start, other.start))?;
+    parts.sort_unstable_by_key(|part| place_of(ranks, part));
     if are_in_order(a, parts) {
         Ok(())
     } else {

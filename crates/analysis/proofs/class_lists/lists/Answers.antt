@@ -13,7 +13,7 @@ loop-class-preserved c =
     let lists = c.loop-class.lists in
     let parts = c.in_ok-parts.parts.items in
     let new : c.push.new.self ≡ with_class parts lists =
-    c.in_ok-push.ensures ∙ ap (λ (l : List Part). with_class l lists) c.deref.ensures.value in
+    c.in_ok-push.ensures ∙ ap (λ (l : List Part). with_class l lists) c.deref-in-loop-class.ensures.value in
     let P : ClassLists → Type 0 = λ l. AreListed a classes (n + 1) l in
     subst P (sym new) (listed_more a classes c.requires n lists parts c.loop-class.invariant c.in_ok-parts.ensures)
 
