@@ -27,12 +27,12 @@ unfolding with_part
 length-with_part class zero x spots = refl
 length-with_part class (suc n) x spots = length-set (with_part class n x spots) (x + n) (spot class n) ∙ length-with_part class n x spots
 
-slice_get-set_same : {A : Type 0} (xs : List A) (i : ℕ) (x : A) → i < length xs → slice_get (set xs i x) i ≡ Some x
+pub slice_get-set_same : {A : Type 0} (xs : List A) (i : ℕ) (x : A) → i < length xs → slice_get (set xs i x) i ≡ Some x
 slice_get-set_same [] i x h = absurd (omega arith)
 slice_get-set_same (y ∷ xs) zero x h = refl
 slice_get-set_same (y ∷ xs) (suc i) x h = slice_get-set_same xs i x (omega arith)
 
-slice_get-set_other : {A : Type 0} (xs : List A) (i j : ℕ) (x : A) → (j ≡ i → ⊥) → slice_get (set xs i x) j ≡ slice_get xs j
+pub slice_get-set_other : {A : Type 0} (xs : List A) (i j : ℕ) (x : A) → (j ≡ i → ⊥) → slice_get (set xs i x) j ≡ slice_get xs j
 slice_get-set_other [] i j x h = refl
 slice_get-set_other (y ∷ xs) zero zero x h = absurd (h refl)
 slice_get-set_other (y ∷ xs) zero (suc j) x h = refl

@@ -1,14 +1,18 @@
 -- Numbers, labels, links and rows built one after another.
-use Rattle.std.proofs.Common.{◌≡◌, ℕ, ◌+◌, ◌<◌, ◌≤◌, List, [], ◌∷◌, ◌++◌, zero, suc, length, drop, replicate, get_or, refl, ap, sym, ◌∙◌, inl, inr, arith, Some, append_assoc, length-append}
+use Rattle.std.proofs.Common.{◌≡◌, ℕ, ◌+◌, ◌<◌, ◌≤◌, List, [], ◌∷◌, ◌++◌, zero, suc, length, take, drop, replicate, get_or, set, subst, refl, ap, sym, ◌∙◌, inl, inr, arith, Some, append_assoc, length-append}
 use Rattle.std.specs.Prelude.{slice_get}
 use Rattle.std.specs.List.{flat_map}
 use Rattle.std.proofs.lemmas.Option.{slice_get-get_or}
-use Rattle.std.proofs.lemmas.List.{drop_more}
+use Rattle.std.proofs.lemmas.List.{drop_more, append-nil, take-append-drop}
+use Rattle.std.proofs.lemmas.Grind.{flat_map-append}
+use Rattle.std.proofs.Math.Seq.{take-suc}
 use Rattle.std.proofs.lemmas.Bool.{cases_eq}
 use Rattle.cs_base.proofs.ListLemmas.{get-front as slice_get-append_left}
 use Rattle.class_labels.specs.declared.spots.Spot.{Spot}
-use Rattle.class_labels.specs.Regrown.{share, place, places_before, ArePlaces, regrown_links}
-use Rattle.class_labels.proofs.RegrownFacts.{place_next, place_grows}
+use Rattle.class_labels.specs.Labels.{spot}
+use Rattle.class_labels.specs.Regrown.{piece, share, place, places_before, ArePlaces, regrown_links}
+use Rattle.class_labels.proofs.PartFacts.{slice_get-set_same, slice_get-set_other}
+use Rattle.class_labels.proofs.RegrownFacts.{first, gone, itself, piece_cases, length-piece, place_next, place_grows}
 
 pub place_none : (c m : ℕ) (spots : List Spot) → place c m spots 0 ≡ 0
 unfolding place
@@ -26,48 +30,66 @@ place_fits c m spots i d less =
     let grows = place_grows c m spots (i + 1) (length spots) (omega arith) (omega arith) in
     omega arith
 
-pub places_before_none : (c m : ℕ) (spots : List Spot) → places_before c m spots 0 ≡ []
-unfolding places_before
-places_before_none c m spots = refl
+-- the numbers so far, and one more
+abbrev pub AreTo : ℕ → ℕ → List Spot → ℕ → List ℕ → Type 0
+AreTo c m spots n numbers = (i : ℕ) → i < n → slice_get numbers i ≡ Some (place c m spots i)
 
-pub places_before_more : (c m : ℕ) (spots : List Spot) (n : ℕ) → places_before c m spots (n + 1) ≡ places_before c m spots n ++ place c m spots n ∷ []
-unfolding places_before
-places_before_more c m spots n = let one : n + 1 ≡ suc n = omega arith in ap (places_before c m spots) one
-
-length-places_before : (c m : ℕ) (spots : List Spot) (n : ℕ) → length (places_before c m spots n) ≡ n
-unfolding places_before
-length-places_before c m spots zero = refl
-length-places_before c m spots (suc n) =
-    let both : length (places_before c m spots n ++ place c m spots n ∷ []) ≡ length (places_before c m spots n) + 1 = length-append (places_before c m spots n) (place c m spots n ∷ []) in
-    omega (arith, length-places_before c m spots n)
-
-slice_get-append_last : {X : Type 0} (xs : List X) (y : X) (i : ℕ) → i ≡ length xs → slice_get (xs ++ y ∷ []) i ≡ Some y
-slice_get-append_last [] y zero h = refl
-slice_get-append_last [] y (suc i) h = absurd (omega arith)
-slice_get-append_last (x ∷ xs) y zero h = absurd (omega arith)
-slice_get-append_last (x ∷ xs) y (suc i) h = slice_get-append_last xs y i (omega arith)
-
-places_before-at : (c m : ℕ) (spots : List Spot) (n i : ℕ) → i < n → slice_get (places_before c m spots n) i ≡ Some (place c m spots i)
-unfolding places_before
-places_before-at c m spots zero i less = absurd (omega arith)
-places_before-at c m spots (suc n) i less = elim (cases_eq i n) [
-  | inl e ↦ slice_get-append_last (places_before c m spots n) (place c m spots n) i (e ∙ sym (length-places_before c m spots n)) ∙ ap (λ v. Some (place c m spots v)) (sym e)
-  | inr ne ↦ slice_get-append_left (places_before c m spots n) (place c m spots n ∷ []) i (omega (arith, length-places_before c m spots n)) ∙ places_before-at c m spots n i (omega arith)
+pub to_more : (c m : ℕ) (spots : List Spot) (n at : ℕ) (numbers : List ℕ) → n < length numbers → at ≡ place c m spots n → AreTo c m spots n numbers
+    → AreTo c m spots (n + 1) (set numbers n at)
+to_more c m spots n at numbers within is before i less = elim (cases_eq i n) [
+  | inl e ↦
+      let P : ℕ → Type 0 = λ v. slice_get (set numbers n at) v ≡ Some (place c m spots v) in
+      subst P (sym e) (slice_get-set_same numbers n at within ∙ ap Some is)
+  | inr ne ↦ slice_get-set_other numbers n i at ne ∙ before i (omega arith)
 ]
 
-pub are_places : (c m : ℕ) (spots : List Spot) (numbers : List ℕ) → numbers ≡ places_before c m spots (length spots + 1) → ArePlaces c m spots numbers
-are_places c m spots numbers e = record {
-  long = ap length e ∙ length-places_before c m spots (length spots + 1);
-  each = λ i within. ap (λ v. slice_get v i) e ∙ places_before-at c m spots (length spots + 1) i (omega arith);
-}
+-- ---- characters that lie in no part of the class stay
 
--- labels: the rest gives the whole
-pub pieces_more : (f : Spot → List Spot) (xs all now whole : List Spot) (i : ℕ) (d : Spot) → i < length xs → now ≡ all ++ f (get_or xs i d) → all ++ flat_map f (drop i xs) ≡ whole → now ++ flat_map f (drop (i + 1) xs) ≡ whole
-pieces_more f xs all now whole i d less e rest =
-    ap (λ v. v ++ flat_map f (drop (i + 1) xs)) e
-    ∙ append_assoc all (f (get_or xs i d)) (flat_map f (drop (i + 1) xs))
-    ∙ ap (λ v. all ++ v) (sym (ap (flat_map f) (drop_more xs i d less)))
-    ∙ rest
+pub stay_none : (c m : ℕ) (spots : List Spot) → flat_map (piece c m) (take 0 spots) ≡ take 0 spots
+stay_none c m spots = refl
+
+itself_stays : (c m : ℕ) (s : Spot) → (s.class ≡ c → ⊥) → flat_map (piece c m) (s ∷ []) ≡ s ∷ []
+itself_stays c m s other = elim (piece_cases c m s) [
+  | first e p n ↦ absurd (other (ap (λ (r : Spot). r.class) e))
+  | gone class some p n ↦ absurd (other class)
+  | itself ne p n ↦ append-nil (piece c m s) ∙ p
+]
+
+pub stay_more : (c m n : ℕ) (spots : List Spot) (d : Spot) → n < length spots → ((get_or spots n d).class ≡ c → ⊥)
+    → flat_map (piece c m) (take n spots) ≡ take n spots → flat_map (piece c m) (take (n + 1) spots) ≡ take (n + 1) spots
+stay_more c m n spots d less other before =
+    let s = get_or spots n d in
+    let next : n + 1 ≡ suc n = omega arith in
+    let more : take (n + 1) spots ≡ take n spots ++ s ∷ [] = ap (λ k. take k spots) next ∙ take-suc spots n d less in
+    ap (flat_map (piece c m)) more
+    ∙ flat_map-append (piece c m) (take n spots) (s ∷ [])
+    ∙ ap (λ v. v ++ flat_map (piece c m) (s ∷ [])) before
+    ∙ ap (λ v. take n spots ++ v) (itself_stays c m s other)
+    ∙ sym more
+
+-- the labels so far and what stands for the others, where some of these stay
+pub stay_whole : (c m n : ℕ) (all now rest whole : List Spot) → flat_map (piece c m) (take n rest) ≡ take n rest → now ≡ all ++ take n rest
+    → all ++ flat_map (piece c m) rest ≡ whole → now ++ flat_map (piece c m) (drop n rest) ≡ whole
+stay_whole c m n all now rest whole stay pushed before =
+    ap (λ v. v ++ flat_map (piece c m) (drop n rest)) pushed
+    ∙ append_assoc all (take n rest) (flat_map (piece c m) (drop n rest))
+    ∙ ap (λ v. all ++ (v ++ flat_map (piece c m) (drop n rest))) (sym stay)
+    ∙ ap (λ v. all ++ v) (sym (flat_map-append (piece c m) (take n rest) (drop n rest)))
+    ∙ ap (λ v. all ++ flat_map (piece c m) v) (take-append-drop n rest)
+    ∙ before
+
+-- there is room for what stands for the first character
+pub fits_first : (c m : ℕ) (spots : List Spot) (s : Spot) (behind : List Spot) (n room : ℕ) → spots ≡ s ∷ behind → n + length (flat_map (piece c m) spots) ≤ room
+    → n + share c m s ≤ room
+fits_first c m spots s behind n room e fits =
+    let whole = ap (λ (v : List Spot). length (flat_map (piece c m) v)) e in
+    let both = length-append (piece c m s) (flat_map (piece c m) behind) in
+    omega (arith, whole, both, length-piece c m s, fits)
+
+-- where no character is left
+pub none_left : (f : Spot → List Spot) (rest : List Spot) → length rest ≤ 0 → flat_map f rest ≡ []
+none_left f [] none = refl
+none_left f (s ∷ rest) none = absurd (omega (arith, none))
 
 pub links_none : (c m : ℕ) (numbers : List ℕ) (nexts : List ℕ) → regrown_links c m numbers [] nexts ≡ []
 unfolding regrown_links

@@ -374,6 +374,10 @@ pub fn add_links(nexts: &mut Vec<u32>, next: u32, len: u32)
     ensures items { nexts.new.items ≡ nexts.old.items ++ replicate len next }
     ensures room { vec_capacity nexts.old ≤ vec_capacity nexts.new }
 {
+    if len == 1 {
+        nexts.push(next).unwrap();
+        return;
+    }
     for _offset in 0..len {
         nexts.push(next).unwrap();
     }

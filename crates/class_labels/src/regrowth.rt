@@ -1,5 +1,5 @@
 // New labels, links and rows for parts that get another length, beside the old ones.
-ghost use Rattle.std.specs.Prelude.{ℕ, ◌≡◌, ◌+◌, ◌^◌, ◌<◌, ◌≤◌, ◌++◌, length, map, replicate, slice_get, slice_index_or, IfOk, vec_len, vec_capacity};
+ghost use Rattle.std.specs.Prelude.{ℕ, ◌≡◌, ◌+◌, ◌-◌, ◌^◌, ◌<◌, ◌≤◌, ◌++◌, length, map, replicate, take, slice_get, slice_index_or, IfOk, vec_len, vec_capacity};
 ghost use Rattle.std.specs.List.{flat_map};
 ghost use Rattle.class_labels.specs.Regrown.{piece, share, place, ArePlaces, regrown_links, moved_row};
 
@@ -27,14 +27,54 @@ pub fn new_numbers(alloc: Global, spots: &[Spot], class: u32, len: u32) -> Resul
     requires short { place class len spots.now (length spots.now) < 2 ^ 32 }
     ensures { IfOk result (λ numbers. ArePlaces class len spots.now numbers.items) }
 {
-    let mut numbers = Vec::with_capacity(alloc, spots.len() + 1)?;
+    let mut numbers = vec![in alloc; 0; spots.len() + 1]?;
+    number_each(&mut numbers, spots, class, len);
+    Ok(numbers)
+}
+
+// The same, written over so many numbers.
+fn number_each(numbers: &mut [u32], spots: &[Spot], class: u32, len: u32)
+    requires long { length numbers.old ≡ length spots.now + 1 }
+    requires short { place class len spots.now (length spots.now) < 2 ^ 32 }
+    ensures { ArePlaces class len spots.now numbers.new }
+{
     let mut at = 0;
     for index in 0..spots.len() {
-        numbers.push(at).unwrap();
+        numbers[index] = at;
         at += share_of(spots[index], class, len);
     }
-    numbers.push(at).unwrap();
-    Ok(numbers)
+    numbers[spots.len()] = at;
+}
+
+// How many of the first characters lie in no part of the class: these stay.
+fn others(spots: &[Spot], class: u32, len: u32) -> usize
+    ensures within { result ≤ length spots.now }
+    ensures stay { flat_map (piece class len) (take result spots.now) ≡ take result spots.now }
+{
+    let mut count = 0;
+    'stay: while count < spots.len() {
+        if spots[count].class == class {
+            return count;
+        }
+        count += 1;
+    }
+    count
+}
+
+// What stands for the first of these characters is added, if there is one, for which there is room. Gives those behind it.
+fn add_first<'a>(all: &mut Vec<Spot>, spots: &'a [Spot], class: u32, len: u32) -> &'a [Spot]
+    requires { vec_len all.old + length (flat_map (piece class len) spots.now) ≤ vec_capacity all.old }
+    ensures rest { all.new.items ++ flat_map (piece class len) result.now ≡ all.old.items ++ flat_map (piece class len) spots.now }
+    ensures room { vec_capacity all.old ≤ vec_capacity all.new }
+    ensures less { length result.now ≡ length spots.now - 1 }
+{
+    match spots.split_first() {
+        Some((spot, behind)) => {
+            add_piece(all, *spot, class, len);
+            behind
+        }
+        None => spots,
+    }
 }
 
 // What stands for a character is added; there is room for it.
@@ -50,7 +90,7 @@ fn add_piece(spots: &mut Vec<Spot>, spot: Spot, class: u32, len: u32)
     }
 }
 
-/// The labels afterwards; `count` is how many.
+/// The labels afterwards; `count` is how many. Those between the parts of the class are copied at once.
 pub fn new_spots(
     alloc: Global,
     spots: &[Spot],
@@ -62,8 +102,11 @@ pub fn new_spots(
     ensures { IfOk result (λ all. all.items ≡ flat_map (piece class len) spots.now) }
 {
     let mut all = Vec::with_capacity(alloc, count as usize)?;
-    for index in 0..spots.len() {
-        add_piece(&mut all, spots[index], class, len);
+    let mut rest = spots;
+    'rest: while rest.len() > 0 {
+        let (stay, more) = rest.split_at(others(rest, class, len));
+        all.extend_from_slice(stay)?;
+        rest = add_first(&mut all, more, class, len);
     }
     Ok(all)
 }

@@ -1,39 +1,60 @@
-use Rattle.std.proofs.Common.{◌≡◌, ◌+◌, ◌++◌, length, get_or, ap, sym, ◌∙◌, arith, length-append}
+use Rattle.std.proofs.Common.{◌≡◌, ◌+◌, ◌-◌, ◌++◌, List, [], length, take, drop, ap, sym, ◌∙◌, arith, length-append, length-drop}
 use Rattle.std.specs.List.{flat_map}
-use Rattle.std.proofs.lemmas.List.{drop_all, append-nil}
-use Rattle.class_labels.specs.Labels.{spot}
-use Rattle.class_labels.specs.Regrown.{piece}
-use Rattle.class_labels.proofs.RegrownFacts.{length-piece}
-use Rattle.class_labels.proofs.PlaceFacts.{place_none, place_more, place_fits, pieces_more}
+use Rattle.std.proofs.lemmas.List.{append-nil}
+use Rattle.class_labels.specs.declared.spots.Spot.{Spot}
+use Rattle.class_labels.specs.Regrown.{piece, place}
+use Rattle.class_labels.proofs.PlaceFacts.{none_left, stay_whole}
+use Rattle.class_labels.proofs.RegrownRows.{length-regrown}
 use Rattle.class_labels.proofs.regrowth.new_spots.Goals as goal
 
-pub loop-index-init : goal.loop-index-init
-loop-index-init c =
+pub rest-init : goal.rest-init
+rest-init c =
     let all = flat_map (piece c.args.class c.args.len) c.args.spots.now in
     record {
       rest = ap (λ v. v ++ all) c.in_ok-all.ensures.items;
-      long = c.in_ok-all.ensures.len ∙ sym (place_none c.args.class c.args.len c.args.spots.now);
       room = omega (arith, c.in_ok-all.ensures.exact);
     }
 
-pub add_piece-requires : goal.add_piece-requires
-add_piece-requires c = omega (arith, place_fits c.args.class c.args.len c.args.spots.now c.loop-index.index (spot 0 0) c.loop-index-test.true, c.loop-index.invariant.long, c.loop-index.invariant.room, c.requires)
-
-pub loop-index-preserved : goal.loop-index-preserved
-loop-index-preserved c =
-    let spots = c.args.spots.now in
-    let index = c.loop-index.index in
-    let less = c.loop-index-test.true in
-    let s = get_or spots index (spot 0 0) in
+pub add_first-rest-requires : goal.add_first-rest-requires
+add_first-rest-requires c =
     let f = piece c.args.class c.args.len in
-    let both : length (c.loop-index.all.items ++ f s) ≡ length c.loop-index.all.items + length (f s) = length-append c.loop-index.all.items (f s) in
+    let rest = c.rest.rest.now in
+    let n = c.others.result in
+    let stay = c.split_at.ensures.front in
+    let back : c.split_at.result.1.now ≡ drop n rest = c.split_at.ensures.back in
+    let pushed : c.extend_from_slice.new.self.items ≡ c.rest.all.items ++ take n rest =
+    c.in_ok-extend_from_slice.ensures.items ∙ ap (λ v. c.rest.all.items ++ v) stay in
+    let whole : c.extend_from_slice.new.self.items ++ flat_map f (drop n rest) ≡ flat_map f c.args.spots.now =
+    stay_whole c.args.class c.args.len n c.rest.all.items c.extend_from_slice.new.self.items rest (flat_map f c.args.spots.now) c.others.ensures.stay pushed c.rest.invariant.rest in
+    let both = length-append c.extend_from_slice.new.self.items (flat_map f (drop n rest)) in
+    let long = length-regrown c.args.class c.args.len c.args.spots.now in
+    rw back
+    (omega (arith, ap length whole, both, long, c.rest.invariant.room, c.in_ok-extend_from_slice.ensures.capacity, c.requires, c.extend_from_slice.new.self.ok.0))
+
+pub rest-preserved : goal.rest-preserved
+rest-preserved c =
+    let f = piece c.args.class c.args.len in
+    let rest = c.rest.rest.now in
+    let n = c.others.result in
+    let stay = c.split_at.ensures.front in
+    let back : c.split_at.result.1.now ≡ drop n rest = c.split_at.ensures.back in
+    let pushed : c.extend_from_slice.new.self.items ≡ c.rest.all.items ++ take n rest =
+    c.in_ok-extend_from_slice.ensures.items ∙ ap (λ v. c.rest.all.items ++ v) stay in
+    let whole : c.extend_from_slice.new.self.items ++ flat_map f (drop n rest) ≡ flat_map f c.args.spots.now =
+    stay_whole c.args.class c.args.len n c.rest.all.items c.extend_from_slice.new.self.items rest (flat_map f c.args.spots.now) c.others.ensures.stay pushed c.rest.invariant.rest in
     record {
-      rest = pieces_more f spots _ _ _ index (spot 0 0) less c.add_piece.ensures.items c.loop-index.invariant.rest;
-      long = omega (arith, place_more c.args.class c.args.len spots index (spot 0 0) less, c.loop-index.invariant.long, ap length c.add_piece.ensures.items, length-piece c.args.class c.args.len s, c.add_piece.new.spots.ok.0, c.loop-index.all.ok.0);
-      room = omega (arith, c.loop-index.invariant.room, c.add_piece.ensures.room);
+      rest = c.add_first-rest.ensures.rest ∙ ap (λ v. c.extend_from_slice.new.self.items ++ flat_map f v) back ∙ whole;
+      room = omega (arith, c.rest.invariant.room, c.in_ok-extend_from_slice.ensures.capacity, c.add_first-rest.ensures.room);
     }
+
+pub rest-smaller : goal.rest-smaller
+rest-smaller c =
+    let rest = c.rest.rest.now in
+    let n = c.others.result in
+    let back : c.split_at.result.1.now ≡ drop n rest = c.split_at.ensures.back in
+    omega (arith, c.rest-test.true, c.add_first-rest.ensures.less, ap length back, length-drop n rest)
 
 pub returns : goal.returns
 returns c =
     let f = piece c.args.class c.args.len in
-    sym (append-nil c.loop-index.all.items) ∙ ap (λ v. c.loop-index.all.items ++ flat_map f v) (sym (drop_all c.loop-index.index c.args.spots.now (omega (arith, c.loop-index-test.false)))) ∙ c.loop-index.invariant.rest
+    sym (append-nil c.rest.all.items) ∙ ap (λ v. c.rest.all.items ++ v) (sym (none_left f c.rest.rest.now (omega (arith, c.rest-test.false)))) ∙ c.rest.invariant.rest
