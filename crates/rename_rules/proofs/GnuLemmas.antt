@@ -24,6 +24,7 @@ use Rattle.gnu_lists.specs.Lists.{Listed, listed_in}
 use Rattle.analysis.specs.Analysis.{UnitAnalysis, AnalysisValue}
 use Rattle.analysis.specs.Changed.{Renaming}
 use Rattle.analysis.specs.GnuUnits.{begin_of, gnu_begin}
+use Rattle.analysis.proofs.OneUnitLemmas.{same_unit}
 use Rattle.offences.specs.Respelling.{renaming_of}
 use Rattle.offences.specs.declared.firsts.Offence.{Offence}
 use Rattle.offences.specs.First.{standing, FirstThen}
@@ -33,7 +34,9 @@ use Rattle.rename_rules.proofs.UnitLemmas.{unit_next}
 use Rattle.rename_rules.proofs.QuietLemmas.{none_named}
 use Rattle.rename_rules.specs.GnuOffences.{failing_by, failing_places, is_kept, has_gnu, word_place, is_named, joined, text_toks, text_place, told_offences, unit_offences, gnu_offences, symbols, symbols_in}
 use Rattle.rename_rules.specs.GnuTexts.{symbol_in, word_place_in, at_place, text_place_in, told_in, may_be_named, AreQuiet, NoneIsFree, HaveTexts, AddTexts}
-use Rattle.rename_rules.specs.GnuUnits.{FailsIn, IsAgainstUnit}
+use Rattle.rename_rules.specs.GnuUnits.{AreTold, FailsIn, IsAgainstUnit}
+use Rattle.rename_rules.specs.Undeclared.{ProjectName, ProjectUnit, call_places, declared, project_at, project_unit, project_units, HaveNames}
+use Rattle.rename_rules.proofs.CallLemmas.{as_many, calls_same, own_unit, unit_in_project}
 use Rattle.rename_rules.specs.Tokens.{start_of, starts_in}
 
 -- ---- lists
@@ -98,34 +101,37 @@ told_gnu o u (Some p) is e some = (begun u p (sym (told gnu_begin o u (Some p) i
 
 -- ---- units
 
-pub offences_next : (table : Table) (g : UnitAnalysis → List Offence) (units : List UnitAnalysis) (k : ℕ) (u : UnitAnalysis) (a b c : Option Offence)
+pub offences_next : {X : Type 0} (table : Table) (g : X → List Offence) (units : List X) (k : ℕ) (u : X) (a b c : Option Offence)
     → slice_get units k ≡ Some u → FirstThen table (flat_map g (take k units)) a b → FirstThen table (g u) b c → FirstThen table (flat_map g (take (k + 1) units)) a c
 offences_next table g units k u a b c at before here =
     let all : flat_map g (take (k + 1) units) ≡ flat_map g (take k units) ++ g u =
     ap (flat_map g) (next units k u at) ∙ (flat_map-append g (take k units) (u ∷ []) ∙ ap (λ (os : List Offence). flat_map g (take k units) ++ os) (append-nil (g u))) in
     rw all (then_both table (flat_map g (take k units)) (g u) a b c before here)
 
-pub offences_all : (table : Table) (g : UnitAnalysis → List Offence) (units : List UnitAnalysis) (k : ℕ) (a b : Option Offence) → length units ≤ k
+pub offences_all : {X : Type 0} (table : Table) (g : X → List Offence) (units : List X) (k : ℕ) (a b : Option Offence) → length units ≤ k
     → FirstThen table (flat_map g (take k units)) a b → FirstThen table (flat_map g units) a b
-offences_all table g units k a b past is = subst (λ (us : List UnitAnalysis). FirstThen table (flat_map g us) a b) (take_all k units past) is
+offences_all {X = X} table g units k a b past is = subst (λ (us : List X). FirstThen table (flat_map g us) a b) (take_all k units past) is
 
 module _ (a : AnalysisValue) (members : List Part) (name : List ℕ) where
-  not_gnu : (olds : List (List ℕ)) (u : UnitAnalysis) → is_gnu u.standard ≡ false → unit_offences members name olds u ≡ []
-  not_gnu olds u no' = ap (λ (b : Bool). cond b (told_offences members name olds u (listed_in u.text.toks u.tree.under)) []) no'
+  not_gnu : (olds : List (List ℕ)) (names : List ProjectName) (p : ProjectUnit) → is_gnu p.unit.standard ≡ false → unit_offences members name olds names p ≡ []
+  not_gnu olds names p no' =
+      ap (λ (b : Bool). cond b (standing cause.Undeclared (call_places members names p) ++ told_offences members name olds p.unit (listed_in p.unit.text.toks p.unit.tree.under)) []) no'
 
   pub no_gnu : has_gnu a ≡ false → gnu_offences a members name ≡ []
   unfolding has_gnu gnu_offences
   no_gnu none =
-      no_elements (unit_offences members name (symbols a members)) a.units (λ k u at.
-      not_gnu (symbols a members) u (none_there (λ (v : UnitAnalysis). is_gnu v.standard) a.units none k u at))
+      no_elements (unit_offences members name (symbols a members) (declared a members)) (project_units a.workspace.units a.units) (λ k p at.
+      not_gnu (symbols a members) (declared a members) p
+      (none_there (λ (v : UnitAnalysis). is_gnu v.standard) a.units none k p.unit (own_unit a.workspace.units a.units k p at)))
 
   -- a unit that is not of GNU C
-  pub unit_begun : (first : Option Offence) (olds : List Token) (unit : ℕ) (at : Option Pos) → option_map gnu_begin (slice_get a.units (unit - 1)) ≡ Some at → is_none at ≡ true
-      → IsAgainstUnit a members name olds unit first first
-  unit_begun first olds unit (Some p) e none u texts is have = absurd (false≢true none)
-  unit_begun first olds unit None e none u texts is have =
+  pub unit_begun : (first : Option Offence) (olds : List Token) (known : List ProjectName) (unit : ℕ) (at : Option Pos)
+      → option_map gnu_begin (slice_get a.units (unit - 1)) ≡ Some at → is_none at ≡ true → IsAgainstUnit a members name olds known unit first first
+  unit_begun first olds known unit (Some p) e none u texts names is have have_names = absurd (false≢true none)
+  unit_begun first olds known unit None e none u texts names is have have_names =
       subst (λ (os : List Offence). FirstThen a.table os first first)
-      (sym (not_gnu texts u (unbegun u (sym (told gnu_begin (slice_get a.units (unit - 1)) u None is e))))) (then_none a.table first)
+      (sym (not_gnu texts names (project_unit (project_at a.workspace.units (unit - 1)) u)
+      (unbegun u (sym (told gnu_begin (slice_get a.units (unit - 1)) u None is e))))) (then_none a.table first)
 
   -- ---- words and texts
 
@@ -167,33 +173,41 @@ module _ (a : AnalysisValue) (members : List Part) (name : List ℕ) where
         (no_elements (word_place members u) listed.places (λ n k at. quiet_word are.0 k))
         ∙ ap (standing cause.AssemblerText) (no_elements (text_place members name texts u) listed.texts (λ n x at. quiet_text are.1 x))
 
-    in_gnu : is_gnu u.standard ≡ true → unit_offences members name texts u ≡ told_offences members name texts u (listed_in u.text.toks u.tree.under)
-    in_gnu yes' = ap (λ (b : Bool). cond b (told_offences members name texts u (listed_in u.text.toks u.tree.under)) []) yes'
+  pub unit_quiet : (first : Option Offence) (olds toks : List Token) (names : List Name) (u : UnitAnalysis) → toks ≡ u.text.toks → names ≡ u.bound.names
+      → AreQuiet members name olds names toks → AreTold a members name olds u first first
+  unit_quiet first olds toks names u t n quiet texts have =
+      let here : AreQuiet members name olds u.bound.names u.text.toks = subst (λ (ns : List Name). AreQuiet members name olds ns u.text.toks) n (subst (AreQuiet members name olds names) t quiet) in
+      subst (λ (os : List Offence). FirstThen a.table os first first) (sym (quiet_told u olds texts have here (listed_in u.text.toks u.tree.under))) (then_none a.table first)
 
-    either_quiet : AreQuiet members name olds u.bound.names u.text.toks → (gnu : Bool) → is_gnu u.standard ≡ gnu → unit_offences members name texts u ≡ []
-    either_quiet are true yes' = in_gnu yes' ∙ quiet_told are (listed_in u.text.toks u.tree.under)
-    either_quiet are false no' = not_gnu texts u no'
-
-  pub unit_quiet : (first : Option Offence) (olds toks : List Token) (names : List Name) (unit : ℕ)
-      → ((u : UnitAnalysis) → slice_get a.units (unit - 1) ≡ Some u → (toks ≡ u.text.toks) × (names ≡ u.bound.names)) → AreQuiet members name olds names toks
-      → IsAgainstUnit a members name olds unit first first
-  unit_quiet first olds toks names unit are quiet u texts is have =
-      let of = are u is in
-      let here : AreQuiet members name olds u.bound.names u.text.toks = subst (λ (ns : List Name). AreQuiet members name olds ns u.text.toks) of.1 (subst (AreQuiet members name olds names) of.0 quiet) in
-      subst (λ (os : List Offence). FirstThen a.table os first first) (sym (either_quiet u olds texts have here (is_gnu u.standard) refl)) (then_none a.table first)
-
-  pub unit_against : (first now : Option Offence) (olds toks : List Token) (names : List Name) (listed : Listed) (unit : ℕ)
-      → ((u : UnitAnalysis) → slice_get a.units (unit - 1) ≡ Some u
-      → (is_gnu u.standard ≡ true) × (toks ≡ u.text.toks) × (names ≡ u.bound.names) × (listed ≡ listed_in u.text.toks u.tree.under))
-      → FirstThen a.table (told_in members name olds names toks listed) first now → IsAgainstUnit a members name olds unit first now
-  unit_against first now olds toks names listed unit are then_ u texts is have =
-      let of = are u is in
-      let same : told_in members name olds names toks listed ≡ unit_offences members name texts u =
-      ap (λ (ts : List Token). told_in members name olds names ts listed) of.1
-      ∙ (ap (λ (ns : List Name). told_in members name olds ns u.text.toks listed) of.2
-      ∙ (ap (told_in members name olds u.bound.names u.text.toks) of.3
-      ∙ (told_same u olds texts have (listed_in u.text.toks u.tree.under) ∙ sym (in_gnu u olds texts have of.0)))) in
+  pub unit_told : (first now : Option Offence) (olds toks : List Token) (names : List Name) (listed : Listed) (u : UnitAnalysis) → toks ≡ u.text.toks → names ≡ u.bound.names
+      → listed ≡ listed_in u.text.toks u.tree.under → FirstThen a.table (told_in members name olds names toks listed) first now → AreTold a members name olds u first now
+  unit_told first now olds toks names listed u t n l then_ texts have =
+      let same : told_in members name olds names toks listed ≡ told_offences members name texts u (listed_in u.text.toks u.tree.under) =
+      ap (λ (ts : List Token). told_in members name olds names ts listed) t
+      ∙ (ap (λ (ns : List Name). told_in members name olds ns u.text.toks listed) n
+      ∙ (ap (told_in members name olds u.bound.names u.text.toks) l ∙ told_same u olds texts have (listed_in u.text.toks u.tree.under))) in
       subst (λ (os : List Offence). FirstThen a.table os first now) same then_
+
+  -- the calls of a unit of GNU C, and what its tree tells
+  pub unit_against : (first calls now : Option Offence) (olds : List Token) (known : List ProjectName) (unit : ℕ) (u : UnitAnalysis)
+      → slice_get a.units (unit - 1) ≡ Some u → is_gnu u.standard ≡ true
+      → FirstThen a.table (standing cause.Undeclared (call_places members known (project_unit (project_at a.workspace.units (unit - 1)) u))) first calls
+      → AreTold a members name olds u calls now → IsAgainstUnit a members name olds known unit first now
+  unit_against first calls now olds known unit u at gnu at_calls told_ v texts names is have have_names =
+      let one : u ≡ v = same_unit (slice_get a.units (unit - 1)) v u is at in
+      let p = project_unit (project_at a.workspace.units (unit - 1)) u in
+      let same : standing cause.Undeclared (call_places members known p) ≡ standing cause.Undeclared (call_places members names p) =
+      ap (standing cause.Undeclared) (calls_same members known names p have_names) in
+      let both : FirstThen a.table (standing cause.Undeclared (call_places members names p) ++ told_offences members name texts u (listed_in u.text.toks u.tree.under)) first now =
+      then_both a.table (standing cause.Undeclared (call_places members names p)) (told_offences members name texts u (listed_in u.text.toks u.tree.under)) first calls now
+      (subst (λ (os : List Offence). FirstThen a.table os first calls) same at_calls) (told_ texts have) in
+      subst (λ (w : UnitAnalysis). FirstThen a.table (unit_offences members name texts names (project_unit (project_at a.workspace.units (unit - 1)) w)) first now) one
+      (subst (λ (os : List Offence). FirstThen a.table os first now) (sym (in_gnu texts names p gnu)) both)
+    where
+      in_gnu : (olds : List (List ℕ)) (names : List ProjectName) (p : ProjectUnit) → is_gnu p.unit.standard ≡ true
+          → unit_offences members name olds names p ≡ standing cause.Undeclared (call_places members names p) ++ told_offences members name olds p.unit (listed_in p.unit.text.toks p.unit.tree.under)
+      in_gnu olds names p yes' =
+          ap (λ (b : Bool). cond b (standing cause.Undeclared (call_places members names p) ++ told_offences members name olds p.unit (listed_in p.unit.text.toks p.unit.tree.under)) []) yes'
 
 -- ---- old spellings
 
@@ -365,12 +379,23 @@ at_unit a k less =
     let same : k + 1 - 1 ≡ k = omega arith in
     (u.0, u.1, ap (slice_get a.units) same ∙ u.1)
 
-pub against_next : (a : AnalysisValue) (members : List Part) (name : List ℕ) (olds : List Token) (k : ℕ) (first before now : Option Offence) → k < length a.units
-    → HaveTexts olds (symbols a members) → FirstThen a.table (flat_map (unit_offences members name (symbols a members)) (take k a.units)) first before
-    → IsAgainstUnit a members name olds (k + 1) before now → FirstThen a.table (flat_map (unit_offences members name (symbols a members)) (take (k + 1) a.units)) first now
-against_next a members name olds k first before now less have so_far here =
+pub against_next : (a : AnalysisValue) (members : List Part) (name : List ℕ) (olds : List Token) (known : List ProjectName) (k : ℕ) (first before now : Option Offence) → k < length a.units
+    → HaveTexts olds (symbols a members) → HaveNames known (declared a members)
+    → FirstThen a.table (flat_map (unit_offences members name (symbols a members) (declared a members)) (take k (project_units a.workspace.units a.units))) first before
+    → IsAgainstUnit a members name olds known (k + 1) before now
+    → FirstThen a.table (flat_map (unit_offences members name (symbols a members) (declared a members)) (take (k + 1) (project_units a.workspace.units a.units))) first now
+against_next a members name olds known k first before now less have have_names so_far here =
     let u = at_unit a k less in
-    offences_next a.table (unit_offences members name (symbols a members)) a.units k u.0 first before now u.1 so_far (here u.0 (symbols a members) u.2 have)
+    let same : k + 1 - 1 ≡ k = omega arith in
+    let of : List ℕ → List Offence = λ project. unit_offences members name (symbols a members) (declared a members) (project_unit project u.0) in
+    offences_next a.table (unit_offences members name (symbols a members) (declared a members)) (project_units a.workspace.units a.units) k
+    (project_unit (project_at a.workspace.units k) u.0) first before now (unit_in_project a.workspace.units a.units k u.0 u.1) so_far
+    (subst (λ (j : ℕ). FirstThen a.table (of (project_at a.workspace.units j)) before now) same (here u.0 (symbols a members) (declared a members) u.2 have have_names))
+
+pub against_all : (a : AnalysisValue) (g : ProjectUnit → List Offence) (k : ℕ) (first now : Option Offence) → length a.units ≤ k
+    → FirstThen a.table (flat_map g (take k (project_units a.workspace.units a.units))) first now → FirstThen a.table (flat_map g (project_units a.workspace.units a.units)) first now
+against_all a g k first now past so_far =
+    offences_all a.table g (project_units a.workspace.units a.units) k first now (omega (arith, past, as_many a.workspace.units a.units)) so_far
 
 pub failing_next : (a : AnalysisValue) (r : Renaming) (k : ℕ) (first before now : Option Offence) → k < length a.units
     → FirstThen a.table (standing cause.Syntax (flat_map (failing_by r) (take k a.units))) first before → FailsIn a r (k + 1) before now

@@ -12,5 +12,6 @@ pub mod EditLemmas
 pub mod PathLemmas
 pub mod FailingLemmas
 mod QuietLemmas
+mod CallLemmas
 mod GnuLemmas
 pub mod Below

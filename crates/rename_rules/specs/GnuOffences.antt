@@ -1,5 +1,5 @@
 -- What stands against the renaming of a class in units of GNU C (this project's, over the manual of gcc): names that denote nothing,
--- texts for the assembler, and units that would be read or bound otherwise.
+-- texts for the assembler, calls of what nothing declares, and units that would be read or bound otherwise.
 use Rattle.std.specs.Prelude.{ℕ, ◌-◌, ◌&&◌, ◌||◌, not, if◌then◌else◌, Bool, true, false, is_some, Option, Some, List, [], ◌∷◌, ◌++◌, drop, take, map, slice_get}
 use Rattle.std.specs.List.{flat_map, list_all, list_any}
 use Rattle.std.specs.Option.{option_map_or}
@@ -26,6 +26,7 @@ use Rattle.analysis.specs.GnuUnits.{begin_of}
 use Rattle.same_readings.specs.Readings.{reads_so}
 use Rattle.offences.specs.Respelling.{renaming_of}
 use Rattle.rename_rules.specs.Tokens.{starts_in}
+use Rattle.rename_rules.specs.Undeclared.{ProjectName, ProjectUnit, call_places, declared, project_units}
 use Rattle.offences.specs.Tokens.{holds_member}
 use Rattle.offences.specs.declared.firsts.Offence.{Offence}
 use Rattle.offences.specs.First.{standing}
@@ -91,13 +92,18 @@ told_offences members name olds u listed =
     standing cause.Reserved (flat_map (word_place members u) listed.places)
     ++ standing cause.AssemblerText (flat_map (text_place members name olds u) listed.texts)
 
-abbrev pub unit_offences : List Part → List ℕ → List (List ℕ) → UnitAnalysis → List Offence
-unit_offences members name olds u =
-    if is_gnu u.standard then told_offences members name olds u (listed_in u.text.toks u.tree.under) else []
+-- ---- all three
+
+abbrev pub unit_offences : List Part → List ℕ → List (List ℕ) → List ProjectName → ProjectUnit → List Offence
+unit_offences members name olds names p =
+    if is_gnu p.unit.standard
+    then standing cause.Undeclared (call_places members names p) ++ told_offences members name olds p.unit (listed_in p.unit.text.toks p.unit.tree.under)
+    else []
 
 -- those of each unit of GNU C
 unfoldable pub gnu_offences : AnalysisValue → List Part → List ℕ → List Offence
-gnu_offences a members name = flat_map (unit_offences members name (symbols a members)) a.units
+gnu_offences a members name =
+    flat_map (unit_offences members name (symbols a members) (declared a members)) (project_units a.workspace.units a.units)
 
 -- ---- Syntax: units that would be read or bound otherwise
 

@@ -3,6 +3,7 @@ pub mod Tokens
 pub mod Prefixes
 pub mod Escapes
 pub mod Runs
+pub mod Undeclared
 pub mod GnuOffences
 pub mod Offences
 pub mod InUnits

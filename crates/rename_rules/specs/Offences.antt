@@ -1,4 +1,4 @@
--- What stands against the renaming of a class to a name (this project's): eleven offences, each at the places where
+-- What stands against the renaming of a class to a name (this project's): twelve offences, each at the places where
 -- it stands. A member's place is that of its first character.
 use Rattle.std.specs.Prelude.{ℕ, ◌&&◌, ◌||◌, nat_le, nat_lt, if◌then◌else◌, Bool, List, [], ◌∷◌, ◌++◌, slice_get}
 use Rattle.std.specs.List.{flat_map, list_any}
@@ -132,7 +132,7 @@ spelling_offences a members name =
     ++ standing cause.Clash (clashing_places a members name)
     ++ standing cause.TooLarge (too_large_places a members name)
     ++ standing cause.ShadowedTypedef (shadowed_places a members)
-    -- Reserved once more, and AssemblerText, in units of GNU C
+    -- Reserved once more, AssemblerText, and Undeclared, in units of GNU C
     ++ gnu_offences a members name
 
 -- All offences against a renaming, in no order; where there are none of these, those of units of GNU C that would be read or bound

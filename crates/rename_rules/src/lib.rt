@@ -1,16 +1,17 @@
 //! What a renaming does to an analysed workspace, and what stands against it.
 //!
-//! The definitions over an analysis: the tokens that hold members of a class (`specs/Tokens.antt`), the eleven
+//! The definitions over an analysis: the tokens that hold members of a class (`specs/Tokens.antt`), the twelve
 //! offences against a renaming, each at the places where it stands (`specs/Offences.antt`, with `specs/Prefixes.antt` for new
 //! names in front of constants, `specs/Escapes.antt` for members behind a backslash, and `specs/GnuOffences.antt` for those that
-//! units of GNU C have of their own), the first of them (`First` of the crate `offences`), and the answer for a place and a new name
+//! units of GNU C have of their own, of which `specs/Undeclared.antt` has calls of what no unit declares), the first of them
+//! (`First` of the crate `offences`), and the answer for a place and a new name
 //! (`specs/Renaming.antt`): the edits of all files that hold a member, or the first refusal. The functions tell of one token or
 //! one offence: which member holds a character, how a token is spelled anew; and `edit_files` gives the edits, file by file in the
 //! order of paths (`specs/FileOrder.antt`).
 //!
 //! What stands in texts of units is found in one go over them, the first of each of four causes (`in_units`), and
-//! comes to the others later (`and_first`). A unit of GNU C is looked at twice more: `gnu_offences` reads its tree
-//! again, which lists names that may denote nothing and texts for the assembler, unless its tokens alone tell that
+//! comes to the others later (`and_first`). A unit of GNU C is looked at twice more: `gnu_offences` looks at its calls, and reads its
+//! tree again, which lists names that may denote nothing and texts for the assembler, unless its tokens alone tell that
 //! none of these has to do with the class; and where nothing else stands, `failing` reads and binds its renamed
 //! tokens, and holds both against what they were. The plan of a whole renaming, and what a renaming keeps, belong
 //! to the crates above. Read the first four files in this order.
@@ -21,10 +22,12 @@ mod constant_prefixes;
 mod edits;
 mod escapes;
 mod failing_units;
+mod first_calls;
 mod gnu_texts;
 mod held_tokens;
 mod member_offences;
 mod occurrences;
+mod project_names;
 mod renamings;
 mod respelling_table;
 mod sizes;

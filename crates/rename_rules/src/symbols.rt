@@ -1,4 +1,4 @@
-// The old spellings of a class by which the assembler may know what it names.
+// The old spellings of a class by which the assembler may know what it names, and by which projects declare it.
 ghost use Rattle.std.specs.Prelude.{◌≡◌, ◌∷◌, [], IfOk, OnOk, slice_get};
 ghost use Rattle.std.specs.List.{flat_map, list_any};
 ghost use Rattle.std.specs.Option.{option_map_or};
@@ -7,7 +7,9 @@ ghost use Rattle.cs_base.specs.Token.{Token};
 ghost use Rattle.analysis.specs.Below.c_types.Declarations.{has_linkage};
 ghost use Rattle.rename_rules.specs.GnuOffences.{held_text, is_label, is_symbol, symbols};
 ghost use Rattle.rename_rules.specs.GnuTexts.{AddTexts, HaveTexts, symbol_in};
+ghost use Rattle.rename_rules.specs.Undeclared.{declared, HaveNames};
 
+use crate::project_names::{ProjectName, project_at, push_declared};
 use analysis::{Bound, EntityKind, Linkage, Name};
 use cs_base::{Memory, Tok};
 use offences::{Class, holds_member};
@@ -109,17 +111,30 @@ fn push_names(
     Ok(())
 }
 
-/// Tokens with the old spellings of the class by which the assembler may know what it names, each spelling once.
-pub(crate) fn symbols(alloc: Global, class: &Class<'_>) -> Result<Vec<Tok>, Memory>
-    ensures { IfOk result (λ olds. HaveTexts olds.items (symbols class.now.analysis.value class.now.members)) }
+/// The old spellings of a class.
+#[derive(Drop)]
+pub(crate) struct OldSpellings {
+    /// Tokens with those by which the assembler may know what the class names, each spelling once.
+    pub texts: Vec<Tok>,
+    /// Those by which units declare something of external linkage, in their projects.
+    pub names: Vec<ProjectName>,
+}
+
+/// Both, of one walk over the units.
+pub(crate) fn old_spellings(alloc: Global, class: &Class<'_>) -> Result<OldSpellings, Memory>
+    ensures known { IfOk result (λ olds. HaveTexts olds.texts.items (symbols class.now.analysis.value class.now.members)) }
+    ensures own { IfOk result (λ olds. HaveNames olds.names.items (declared class.now.analysis.value class.now.members)) }
 {
     let a = class.analysis();
-    let mut olds = Vec::new(alloc);
+    let units = a.workspace().units();
+    let mut texts = Vec::new(alloc);
+    let mut names = Vec::new(alloc);
     for unit in 0..a.units() {
         let one = a.unit(alloc, unit + 1)?;
         let bound = one.bound();
         let text = one.text();
-        push_names(&mut olds, class, bound, text.toks(), bound.names())?;
+        push_names(&mut texts, class, bound, text.toks(), bound.names())?;
+        push_declared(alloc, &mut names, class, project_at(units, unit), &one)?;
     }
-    Ok(olds)
+    Ok(OldSpellings { texts, names })
 }

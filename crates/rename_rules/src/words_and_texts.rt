@@ -1,17 +1,20 @@
-// What stands against a renaming in units of GNU C: names that denote nothing, and texts for the assembler.
+// What stands against a renaming in units of GNU C: names that denote nothing, texts for the assembler, and calls of what
+// nothing declares.
 ghost use Rattle.std.specs.Prelude.{◌≡◌, ◌≤◌, IfOk, IsTrue, length};
 ghost use Rattle.std.specs.List.{flat_map};
 ghost use Rattle.cs_base.specs.declared.causes.Cause.TheVariants as cause;
 ghost use Rattle.offences.specs.First.{standing, FirstThen};
 ghost use Rattle.rename_rules.specs.GnuOffences.{has_gnu, gnu_offences};
 ghost use Rattle.rename_rules.specs.GnuTexts.{is_free, told_in, word_place_in, AreQuiet, NoneIsFree};
-ghost use Rattle.rename_rules.specs.GnuUnits.{IsAgainstUnit};
+ghost use Rattle.rename_rules.specs.GnuUnits.{AreTold, IsAgainstUnit};
 
+use crate::first_calls::at_calls;
 use crate::gnu_texts::{in_texts, may_be_named};
 use crate::member_offences::in_token;
+use crate::project_names::project_at;
 use crate::renamings::Renaming;
-use crate::symbols::symbols;
-use analysis::{Analysis, Bound};
+use crate::symbols::{OldSpellings, old_spellings};
+use analysis::{Analysis, Bound, UnitAt};
 use cs_base::{Cause, Memory, Tok};
 use gnu_lists::{Lists, lists_of};
 use offences::{Class, Offence, holds_member};
@@ -127,23 +130,17 @@ fn is_quiet(
     Ok(!named)
 }
 
-// Both offences in a unit: none where it is not of GNU C. Its tree is read again only where its tokens alone leave it open.
-fn in_unit(
+// Both offences in a unit of GNU C. Its tree is read again only where its tokens alone leave it open.
+fn in_read(
     alloc: Global,
     a: &Analysis,
     renaming: &Renaming<'_>,
     olds: &[Tok],
-    unit: u32,
+    one: &UnitAt<'_>,
     first: Option<Offence>,
 ) -> Result<Option<Offence>, Memory>
-    requires start { 1 ≤ unit }
-    requires end { unit ≤ length a.now.value.units }
-    ensures { IfOk result (λ now. IsAgainstUnit a.now.value renaming.now.class.members renaming.now.name olds.now unit first now) }
+    ensures { IfOk result (AreTold a.now.value renaming.now.class.members renaming.now.name olds.now one.now first) }
 {
-    if a.gnu_begin(unit).is_none() {
-        return Ok(first);
-    }
-    let one = a.unit(alloc, unit)?;
     let toks = one.text().toks();
     let bound = one.bound();
     let quiet = is_quiet(alloc, renaming, olds, bound, toks)?;
@@ -155,7 +152,30 @@ fn in_unit(
     in_lists(alloc, a, renaming, olds, bound, toks, &lists, first)
 }
 
-// Both offences in all units.
+// All offences of a unit: none where it is not of GNU C.
+fn in_unit(
+    alloc: Global,
+    a: &Analysis,
+    renaming: &Renaming<'_>,
+    olds: &OldSpellings,
+    unit: u32,
+    first: Option<Offence>,
+) -> Result<Option<Offence>, Memory>
+    requires start { 1 ≤ unit }
+    requires end { unit ≤ length a.now.value.units }
+    ensures { IfOk result (λ now. IsAgainstUnit a.now.value renaming.now.class.members renaming.now.name
+        olds.now.texts.items olds.now.names.items unit first now) }
+{
+    if a.gnu_begin(unit).is_none() {
+        return Ok(first);
+    }
+    let one = a.unit(alloc, unit)?;
+    let project = project_at(a.workspace().units(), unit - 1);
+    let calls = at_calls(a, renaming.class(), &olds.names, project, &one, first);
+    in_read(alloc, a, renaming, &olds.texts, &one, calls)
+}
+
+// All offences of all units.
 fn in_units(
     alloc: Global,
     renaming: &Renaming<'_>,
@@ -166,7 +186,7 @@ fn in_units(
 {
     let class = renaming.class();
     let a = class.analysis();
-    let olds = symbols(alloc, class)?;
+    let olds = old_spellings(alloc, class)?;
     let mut now = first;
     for unit in 0..a.units() {
         now = in_unit(alloc, a, renaming, &olds, unit + 1, now)?;
@@ -174,8 +194,9 @@ fn in_units(
     Ok(now)
 }
 
-/// `Reserved` at each member in a name that denotes nothing, as that of an attribute, and `AssemblerText` where a text for the
-/// assembler begins that has a name of the class, in each unit of GNU C.
+/// In each unit of GNU C: `Undeclared` at each member in a call that is taken to declare what no unit of its project declares, `Reserved`
+/// at each in a name that denotes nothing, as that of an attribute, and `AssemblerText` where a text for the assembler begins
+/// that has a name of the class.
 pub fn gnu_offences(
     alloc: Global,
     renaming: &Renaming<'_>,

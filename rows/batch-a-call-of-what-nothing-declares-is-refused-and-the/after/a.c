@@ -1,0 +1,1 @@
+void go(void) { g(1); }

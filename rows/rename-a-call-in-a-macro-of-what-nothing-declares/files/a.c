@@ -1,0 +1,2 @@
+#define STOP(n) abort()
+void k(void) { STOP(1); }

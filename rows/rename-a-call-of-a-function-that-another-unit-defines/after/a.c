@@ -1,0 +1,1 @@
+int k(int n) { return leave(n) + leave(1); }

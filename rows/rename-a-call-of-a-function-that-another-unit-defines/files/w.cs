@@ -1,0 +1,4 @@
+standard gnu11
+file a.c
+standard c99
+file b.c

@@ -1,0 +1,1 @@
+int leave(int n) { return -n; }

@@ -1,0 +1,1 @@
+int k(int n) { return g(n); }

@@ -1,0 +1,3 @@
+standard gnu11
+readonly lib
+file lib/a.c

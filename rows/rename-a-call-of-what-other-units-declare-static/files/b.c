@@ -1,0 +1,2 @@
+static int g(int n) { return n; }
+int m(int n) { return g(n); }

@@ -1,0 +1,3 @@
+standard gnu11
+file a.c
+file b.c

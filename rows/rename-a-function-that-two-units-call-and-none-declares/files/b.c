@@ -1,0 +1,1 @@
+void m(void) { g(2); }

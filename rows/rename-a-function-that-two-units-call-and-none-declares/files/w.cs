@@ -1,0 +1,3 @@
+standard gnu11
+file b.c
+file a.c
