@@ -10,14 +10,32 @@ from cscout_ref.reader import with_deep_stack
 from held_told import Held
 from made import Maker, new_name
 from random_workspaces import analysis_of, wanted
-from told_model import unseen, words_of
+from told_model import quoted_words, unseen, words_of
 
 EACH = 4
 
 
-def beside(r, words, line):
-    """Lines that no unit processes, or that look so."""
+def operator(r, word):
+    """A `_Pragma` operator, on a line or on several, or what looks so."""
+    text = b"".join(r.choice([b" ", b",", b"(", b":", b"x", b"1", b"\\n", b"\\\"", b"\\\n"]) + word() for _ in range(r.choice([1, 1, 2, 3])))
+    blank = lambda: r.choice([b"", b"", b" ", b"\n", b"/* " + word() + b" */"])  # noqa: E731
+    operand = r.choice([b"", b"", b"L", b"u8", b"U", b"u "]) + b'"' + text + b'"' + r.choice([b""] * 6 + [b"1", b' ""'])
+    return b"_Pragma" + blank() + b"(" + blank() + operand + blank() + b")"
+
+
+def beside(r, words, line, drops):
+    """Lines that no unit processes, or that look so. Where `drops`, a line of the workspace drops `_Pragma`."""
     word = lambda: r.choice(words)  # noqa: E731
+    if r.random() < .3:
+        lines = operator(r, word).split(b"\n")
+        one = b" ".join(operator(r, word).replace(b"\\\n", b"").split(b"\n"))
+        return r.choice([
+            lines if drops else [b"#if 0", *lines, b"#endif"],
+            [b"#if 0", *lines, b"#endif"],
+            [b"#define UR_%d %s" % (r.randrange(9999), one)],
+            [b"#define US_%d(%s) %s %s" % (r.randrange(9999), word(), one, word())],
+            [b"#pragma " + one],
+        ])
     return r.choice([
         [b"#if 0", line, b"#endif"],
         [b"#ifdef NEVER_", b"int " + word() + b"(" + word() + b");", b"#define " + word() + b"(" + word() + b") " + word(), b"#else", b"#endif"],
@@ -34,6 +52,9 @@ def beside(r, words, line):
 def with_idle(r, files):
     """The files with such lines. In a file with splices or open comments they stand at the end."""
     words = sorted({word for path, data in files.items() if path != b"w.cs" for word in re.findall(rb"[A-Za-z_]\w*", data)})
+    drops = r.random() < .6
+    if drops:
+        files[b"w.cs"] = b"define _Pragma(x)\n" + files[b"w.cs"].replace(b"project two\n", b"project two\ndefine _Pragma(x)\n")
     for path in [it for it in files if it != b"w.cs"]:
         lines = files[path].split(b"\n")
         if any(line.rstrip(b"\r").endswith(b"\\") or b"/*" in line and b"*/" not in line for line in lines):
@@ -42,7 +63,7 @@ def with_idle(r, files):
             spots = list(range(len(lines) + 1))
         for _ in range(r.choice([0, 1, 3, 5]) if spots else 0):
             at = r.choice(spots)
-            more = beside(r, words, r.choice(lines).rstrip(b"\r"))
+            more = beside(r, words, r.choice(lines).rstrip(b"\r"), drops)
             lines[at:at] = more
             spots = [it if it <= at else it + len(more) for it in spots]
         files[path] = b"\n".join(lines)
@@ -50,10 +71,12 @@ def with_idle(r, files):
 
 
 def row(r, analysis):
-    """A rename of a class with more words of its spelling than members, if there is one, and the part at its place."""
+    """A rename of a class with more words of its spelling than members, or with one in a string of `_Pragma`, if there is one."""
     classes = [members for members in analysis.classes_by_place() if any(m.tok.at in analysis.nameable for m in members)]
     more = [members for members in classes if len(list(words_of(analysis, members[0].text))) > len(members)]
-    member = r.choice(r.choice(more if more and r.random() < .8 else classes))
+    quoted = [members for members in classes if any(quoted_words(analysis, members[0].text))]
+    drawn = r.random()
+    member = r.choice(r.choice(quoted if quoted and drawn < .3 else more if more and drawn < .8 else classes))
     place = analysis.place(member.start)
     name = r.choice(["zz", "zq", new_name(r, member.text.decode())])
     return ["w.cs", "rename", os.fsdecode(place.path), str(place.line), str(place.column), name]

@@ -1,6 +1,8 @@
 """What the program tells beside its answers, over the reference model, which has none of it: the old name in code that no unit processes, each
 unit by itself (`check`), and the note behind `--why`. scripts/random-told holds the program against this."""
 
+import re
+
 from cscout_ref import binder, reader
 from cscout_ref.analysis import analyse
 from cscout_ref.batch import parse_number
@@ -16,7 +18,7 @@ WIDE = {"Tag", "Member", "Typedef", "Enumerator", "Function"}
 
 def unseen(analysis, part):
     """Its lines behind those of an edit that is done: the whole tokens that are spelled as the part, that nothing of the analysis reaches and
-    that no unit has, where the class of the part could be meant, by place."""
+    that no unit has, and the words in strings of `_Pragma` that no unit has, where the class of the part could be meant, by place."""
     members = analysis.members(part.cls)
     wide, busy = roles(analysis, part.cls)
     processed = {(o.file, o.at) for unit in analysis.units for tok in unit.text.toks for o in tok.origins if o}
@@ -26,20 +28,36 @@ def unseen(analysis, part):
         if (whole.len == len(tok.text) and whole.cls != part.cls and whole.cls not in busy
                 and (tok.at.file, tok.at.at) not in processed and (wide or is_between(members, tok.at))):
             found.append(tok.at)
+    found += [at for at in quoted_words(analysis, part.text) if (at.file, at.at) not in processed and (wide or is_between(members, at))]
     return b"".join(b"unseen " + analysis.place(at).words() + b" " + part.text + b"\n" for at in sorted(found, key=analysis.place_key))
+
+
+def operands(analysis):
+    """The items of the files that may be edited, and the tokens of each but for the word of a directive."""
+    for file in analysis.kept.values():
+        if not analysis.read_only(file.number):
+            yield from ((item, item.toks if item.kind == "Run" else item.toks[2:]) for item in file.items)
 
 
 def words_of(analysis, name):
     """The identifiers of the spelling in the files that may be edited: none of a define line that has a parameter of that name, and no word
     of a directive."""
-    for file in analysis.kept.values():
-        if analysis.read_only(file.number):
-            continue
-        for item in file.items:
-            if item.kind == "Define" and name in parameters(item.toks[3:]):
-                continue
-            toks = item.toks if item.kind == "Run" else item.toks[2:]
+    for item, toks in operands(analysis):
+        if item.kind != "Define" or name not in parameters(item.toks[3:]):
             yield from (t for t in toks if t.kind == "Ident" and t.text == name)
+
+
+def quoted_words(analysis, name):
+    """Where the spelling stands as a whole word, as it is written, in the string of `_Pragma ( string )`."""
+    for _, toks in operands(analysis):
+        for k, tok in enumerate(toks):
+            if tok.kind == "Ident" and tok.text == b"_Pragma" and toks[k + 1:] and toks[k + 1].is_punct(b"("):
+                rest = toks[k + 2:k + 5]
+                if len(rest) > 1 and rest[0].text in (b"u8", b"u", b"U") and not rest[1].gap:
+                    del rest[0]
+                if len(rest) > 1 and rest[0].kind == "Str" and rest[1].is_punct(b")"):
+                    inside = rest[0].text.index(b'"')
+                    yield from (rest[0].origins[it.start()] for it in re.finditer(rb"\b%s\b" % name, rest[0].text) if it.start() > inside)
 
 
 def parameters(toks):

@@ -7,4 +7,5 @@ pub mod WalkLemmas
 pub mod ClassLemmas
 pub mod ProcessedLemmas
 pub mod ReachLemmas
+pub mod PragmaLemmas
 pub mod UnseenLemmas

@@ -1,4 +1,5 @@
 -- What the public contracts rest on.
+pub mod Pragmas
 pub mod Words
 pub mod Reach
 pub mod Unseen

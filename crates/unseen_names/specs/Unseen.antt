@@ -1,5 +1,5 @@
 -- The old name where no unit processes it (this project's): what a new spelling of a class leaves behind there.
-use Rattle.std.specs.Prelude.{ℕ, ◌≡◌, ◌&&◌, nat_eq, Bool, true, false, Option, Some, None, List, ◌++◌, codes, slice_get}
+use Rattle.std.specs.Prelude.{ℕ, ◌≡◌, ◌⊎◌, ◌&&◌, nat_eq, Bool, true, false, Option, Some, None, List, ◌++◌, codes, slice_get}
 use Rattle.std.specs.List.{flat_map, list_any}
 use Rattle.std.specs.List.Sorted.{IsStrictlySortedBy}
 use Rattle.cs_base.specs.declared.positions.Part.{Part}
@@ -12,6 +12,8 @@ use Rattle.analysis.specs.Places.{place_at}
 use Rattle.analysis.specs.Spellings.{spelling_of}
 use Rattle.class_marks.specs.declared.roles.Role.TheVariants.{Declares, Uses}
 use Rattle.class_marks.specs.Touching.{HasRole}
+use Rattle.unseen_names.specs.declared.words.Source.{Source}
+use Rattle.unseen_names.specs.declared.words.Source.TheVariants.{Names, Pragmas}
 use Rattle.unseen_names.specs.Words.{words_of}
 use Rattle.unseen_names.specs.Reach.{Reaches}
 
@@ -44,12 +46,25 @@ pub record IsIdle (a : AnalysisValue) (place : Part) : Type 0 where
   pub unused : HasRole a Uses place → ⊥
   pub unprocessed : IsProcessed a place.start → ⊥
 
+-- a word of this source in a file that may be edited, spelled as the part
+abbrev pub IsSpelledAlike : AnalysisValue → Source → Part → Part → Type 0
+IsSpelledAlike a source part place = (k : ℕ) × (slice_get (words_of a source (spelling_of a part)) k ≡ Some place)
+
 -- An identifier of a file that may be edited, spelled as the part, that is another idle class which the class reaches.
-pub record IsUnseen (a : AnalysisValue) (part place : Part) : Type 0 where
-  pub word : (k : ℕ) × (slice_get (words_of a (spelling_of a part)) k ≡ Some place)
+pub record IsUnseenName (a : AnalysisValue) (part place : Part) : Type 0 where
+  pub word : IsSpelledAlike a Names part place
   pub other : IsOther a part place
   pub idle : IsIdle a place
   pub reached : Reaches a part place.start
+
+-- A word so spelled in the string literal of a `_Pragma` operator, which no unit has and the class reaches.
+pub record IsUnseenInPragma (a : AnalysisValue) (part place : Part) : Type 0 where
+  pub word : IsSpelledAlike a Pragmas part place
+  pub unprocessed : IsProcessed a place.start → ⊥
+  pub reached : Reaches a part place.start
+
+abbrev pub IsUnseen : AnalysisValue → Part → Part → Type 0
+IsUnseen a part place = IsUnseenName a part place ⊎ IsUnseenInPragma a part place
 
 -- The list has each of them, once, in the order of their places.
 pub record AreUnseen (a : AnalysisValue) (part : Part) (places : List Part) : Type 0 where

@@ -4,4 +4,4 @@ use Rattle.unseen_names.specs.Words.{item_words}
 use Rattle.unseen_names.proofs.words.push_items.Given as goal
 
 abbrev pub invariant-loop-item : goal.invariant-loop-item
-invariant-loop-item l = l.out.items ≡ l.initial.out.items ++ flat_map (item_words l.name l.toks) (take l.item-index l.items)
+invariant-loop-item l = l.out.items ≡ l.initial.out.items ++ flat_map (item_words l.source l.name l.toks) (take l.item-index l.items)

@@ -1,0 +1,2 @@
+define _Pragma(x)
+file a.c
