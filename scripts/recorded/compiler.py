@@ -5,7 +5,7 @@ import re
 import subprocess
 from concurrent.futures import ThreadPoolExecutor
 
-from options import Odd
+from options import Odd, compiling
 from record import Refused
 
 # What a condition asks the compiler of one word, as gcc or clang has it; the operands of such questions, each of which counts for each question,
@@ -18,6 +18,15 @@ ASKED = {
                           rb"\s*\(\s*(\w+)\s*\)"),
     "warning": re.compile(rb'__has_warning\s*\(\s*("[-\w+=]+")\s*\)'),
 }
+# Macros that a compiler has and does not print, with what they stand for in the file that a command names as `said`; and the one of them that
+# no line can say.
+GIVEN = {"__BASE_FILE__": lambda said: said, "__FILE_NAME__": os.path.basename, "__TIMESTAMP__": lambda _: "Thu Jan  1 00:00:00 1970"}
+NOT_GIVEN = "__INCLUDE_LEVEL__"
+NAMED = re.compile(rf"\b({'|'.join([*GIVEN, NOT_GIVEN])})\b".encode())
+# A condition, and in it a character constant with an element of 128 or more.
+CONDITION = re.compile(rb"(?m)^[ \t]*#[ \t]*(?:if|elif)\b(?:[^\n\\]|\\.|\\\n)*'(?:[^\n\\]|\\.|\\\n)*")
+HIGH = re.compile(rb"(?<![\w'])'(?:[^'\\\n]|\\.)*?(?:[\x80-\xff]|\\x0*[89A-Fa-f][\dA-Fa-f](?![\dA-Fa-f])|\\[23][0-7]{2})"
+                  rb"(?:[^'\\\n]|\\.)*'")
 MACHINES = (("__ILP32__", "other"), ("__x86_64__", "x86_64"), ("__aarch64__", "aarch64"), ("__i386__", "i386"))
 
 
@@ -123,6 +132,7 @@ class Compilers:
 
     def __init__(self):
         self.known, self.folders, self.libraries, self.texts, self.asked, self.answers = {}, {}, {}, {}, {}, {}
+        self.marked, self.marks, self.given = {}, {}, {}
 
     def ask(self, compiler, directory, options):
         if "/" in compiler:
@@ -165,15 +175,36 @@ class Compilers:
                 asked = self.asked.setdefault(self._key(entry), set())
                 for path in files:
                     asked |= self._asked_in(path)
+                self.marked[entry.number] = [path for path in files if path in self.marks]
 
     def affirmed(self, entry):
         """The define lines that answer what units like this one ask the compiler of words."""
         key = self._key(entry)
         if key not in self.answers:
-            compiler = os.path.join(entry.directory, entry.compiler) if "/" in entry.compiler else entry.compiler
-            words = [compiler, *entry.options.asking, "-w", "-E", "-P", "-x", "c", "-"]
+            words = [self._path(entry), *entry.options.asking, "-w", "-E", "-P", "-x", "c", "-"]
             self.answers[key] = _answers(_run(words, entry.directory, _questions(self.asked[key])).stdout)
         return self.answers[key]
+
+    def given_to(self, entry):
+        """The define lines for macros that the compiler has and does not print, of those that the unit's files name."""
+        lines, said = [], compiling(entry.words, entry.directory, entry.file)[1]
+        for name in sorted({mark for path in self.marked[entry.number] for _, mark in self.marks[path]} & set(GIVEN)):
+            key = entry.compiler, entry.directory, name
+            if key not in self.given:
+                text = f"#ifdef {name}\nthere\n#endif\n"
+                self.given[key] = "there" in _run([self._path(entry), "-w", "-E", "-P", "-x", "c", "-"], entry.directory, text).stdout
+            if self.given[key]:
+                body = GIVEN[name](said).replace("\\", "\\\\").replace('"', '\\"')
+                lines.append(f'{name} "{body}"')
+        return lines
+
+    def marks_of(self, entry):
+        """The places in the unit's files of what a workspace cannot say: the path, the line, and the word or the constant."""
+        return [(path, line, mark) for path in self.marked[entry.number] for line, mark in self.marks[path] if mark not in GIVEN]
+
+    @staticmethod
+    def _path(entry):
+        return os.path.join(entry.directory, entry.compiler) if "/" in entry.compiler else entry.compiler
 
     @staticmethod
     def _key(entry):
@@ -196,6 +227,11 @@ class Compilers:
             low = text.lower()
             patterns = ASKED.items() if any(word in low for word in (b"has_", b"is_identifier", b"building_module")) else ()
             self.texts[path] = {(kind, name.decode()) for kind, pattern in patterns for name in pattern.findall(text)}
+            marks = [(it.start(), it.group()) for it in NAMED.finditer(text)] if b"__" in text else []
+            for condition in CONDITION.finditer(text):
+                marks += [(condition.start() + it.start(), it.group()) for it in HIGH.finditer(condition.group())]
+            if marks:
+                self.marks[path] = [(text.count(b"\n", 0, at) + 1, mark.decode("latin-1")) for at, mark in sorted(marks)]
         return self.texts[path]
 
     def _own(self, compiler, directory):

@@ -112,7 +112,7 @@ GNU_HINTS = [
          "a declaration without a type; words of another compiler than gcc, as `^` and `_BitInt` of clang", "write the type; `--without` the unit"),
     Hint("undeclared", lambda it: it.before == "enum", "`undeclared` behind `enum`", "an enumeration whose list comes later", "move the list up"),
     Hint("undeclared", lambda it: True, "`undeclared` at another place",
-         "a name of another compiler than gcc, or `__BASE_FILE__` and its like", "`--define` it"),
+         "a name of another compiler than gcc", "`--define` it"),
     Hint("no member", lambda it: True, "`no member`", "a member of what `_Generic`, `__builtin_choose_expr` or a vector gives",
          "a variable of that type for it"),
     Hint("redeclared", lambda it: True, "`redeclared`", "one name for two things, which the compiler refuses too", "build first, and import anew"),

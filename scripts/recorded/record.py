@@ -10,6 +10,8 @@ from options import Odd, Options, compiler_and_rest, compiling, language_of
 
 OBJECTS = (".o", ".obj", ".lo", ".os", ".pico", ".bc", ".s", ".i", ".d", ".gch")
 LIBRARY = re.compile(r"\.(a|la|so(\.[0-9.]+)?|dylib|dll|lib)$")
+# Options by which a command makes no program, whatever the file is called.
+NO_PROGRAM = {"-shared", "--shared", "-r", "--relocatable", "-dynamiclib", "-bundle"}
 
 
 class Refused(Exception):
@@ -201,7 +203,7 @@ def programs(taken):
         if is_object:
             continue
         name = os.path.basename(made)
-        if LIBRARY.search(name):
+        if LIBRARY.search(name) or NO_PROGRAM.intersection(entry.options.asking):
             return None
         linked.setdefault(entry.number, []).append(name)
         for word, _ in entry.options.inputs:

@@ -11,6 +11,8 @@ MOST_UNITS = 8192
 MOST_BYTES = 1 << 22
 # Macros that a unit has before its settings, and whose values the program gives.
 FIRST = ("__STDC__", "__STDC_HOSTED__", "__STDC_VERSION__", "__DATE__", "__TIME__", "_Pragma", "__has_include", "__has_include_next")
+# Those of them whose values tell of the command, as of `-std=c99` and `-ffreestanding`: units of GNU C get the compiler's.
+BY_COMMAND = ("__STDC_HOSTED__", "__STDC_VERSION__")
 # Those of them that ask for a header.
 HEADERS_ASKED = ("__has_include", "__has_include_next")
 # What `__has_builtin` is asked about.
@@ -136,13 +138,17 @@ def gnu_folders(entry, answer, root):
 
 def gnu_settings(entry, answer, affirmed, added):
     """What the settings of a unit of GNU C come to: all macros of the compiler, the lines that answer what the unit asks, the
-    command's own, and what the caller adds."""
-    result = {name_of(head): tuple(own_parameters(head, body)) for head, body in answer.macros if name_of(head) not in FIRST}
+    command's own, and what the caller adds. A macro that the program would give, and the compiler has not, has no body."""
+    result = {name: (name, None) for name in BY_COMMAND}
+    result.update((name_of(head), own_parameters(head, body)) for head, body in answer.macros
+                  if name_of(head) not in FIRST or name_of(head) in BY_COMMAND)
     for kind, text in [("define", text) for text in affirmed] + entry.options.settings + added:
         head, body = head_and_body(text)
         result.pop(name_of(head), None)
         if kind == "define":
             result[name_of(head)] = head, body
+        elif name_of(head) in BY_COMMAND:
+            result[name_of(head)] = head, None
     return result
 
 
@@ -183,7 +189,7 @@ def looked_for(paths, workspace):
 
 
 def _define(head, body):
-    return f"define {head} {body}".rstrip(" \t")
+    return _undefine(head) if body is None else f"define {head} {body}".rstrip(" \t")
 
 
 def _undefine(head):
