@@ -209,6 +209,15 @@ BROKEN = [
     broken("a kit", [cc()], "import: --kit . has no words.cs\n", ["--kit", ".", "c.json"], 2),
 ]
 
+# Texts, and the lines, words and names of operands that the kit's define lines drop.
+DROPPED_NAMES = [
+    ('int f(void) __attribute__((alias("g" /* no */))), h(void)\n__asm__("k");\nint v __attribute__((section("s")));',
+     [(1, "__attribute__", "g"), (2, "__asm__", "k")]),
+    ('static int w(void) __attribute__((__weakref__("a" "@b")));\nvoid m(void) { __asm__("nop"); __asm__ volatile ("mov %0" : "=r" (n)); }',
+     [(1, "__attribute__", "a"), (1, "__attribute__", "b"), (2, "__asm__", "n")]),
+    ("void f(int n) __attribute__((nonnull(1), cleanup(g), noreturn));", [(1, "__attribute__", "1"), (1, "__attribute__", "g")]),
+]
+
 JUDGED = [
     ("int f(int name) { return name; }", "int f(int next) { return next; }", None),
     ("int name; int f(void) { return name; }", "int next; int f(void) { return next; }", None),

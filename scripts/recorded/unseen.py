@@ -10,6 +10,9 @@ WORD = re.compile(r'"(?:[^"\\]|\\.)*"|\'(?:[^\'\\]|\\.)*\'|\b\d\w*|[A-Za-z_]\w*'
 # Attributes whose numbers count the parameters of a function.
 COUNTING = re.compile(r"\b(?:__)?(?:access|alloc_align|alloc_size|fd_arg|fd_arg_read|fd_arg_write|format|format_arg|nonnull"
                       r"|null_terminated_string_arg)(?:__)?\s*\(([^()]*)\)")
+# What stands before a string in which an attribute names a function or an object; and before the one that gives a declarator its name.
+NAMING = re.compile(r'\b(?:__)?(?:alias|ifunc|symver|weakref)(?:__)?\s*\(\s*(?:"[^"]*"\s*)*\Z')
+DECLARED = re.compile(r"[\w)\]]\s*\Z")
 # What attributes are called, and the words that stand in them.
 ATTRIBUTES = set("""access alias aligned alloc_align alloc_size always_inline artificial assume_aligned bounded btf_tag cdecl
  cleanup cold common const constructor copy deprecated designated_init destructor diagnose_if dllexport dllimport error externally_visible
@@ -73,8 +76,8 @@ def _operand(text, at):
 
 
 def dropped_names(text, everything=False):
-    """Line, word and name for each name that stands in an operand that the kit's define lines drop, and for each number there that
-    counts the parameters of a function; with `everything` words of attributes too, and operands in directives, and no numbers."""
+    """Line, word and name for each name that stands in an operand that the kit's define lines drop, also in a string by which it goes for
+    the assembler, and for each number there that counts the parameters of a function; with `everything` words of attributes too, and operands in directives, and no numbers."""
     text = without_comments(text)
     for found in DROPPED.finditer(text):
         operand = _operand(text, found.end() - 1)
@@ -82,8 +85,12 @@ def dropped_names(text, everything=False):
         if not everything and re.match(r"\s*#\s*(define|undef|ifdef|ifndef|if|elif)\b", before):
             continue
         counts = [it.span(1) for it in COUNTING.finditer(operand)]
+        label = "asm" in found.group(1) and DECLARED.search(text[:found.start()]) and re.fullmatch(r'\s*"[A-Za-z_]\w*"\s*', operand)
         for word in WORD.finditer(operand):
             name = word.group(0)
+            if name[0] == '"' and (label or NAMING.search(operand[:word.start()])):
+                for part in re.findall(r"[A-Za-z_]\w*", name):
+                    yield text.count("\n", 0, found.end() + word.start()) + 1, found.group(1), part
             plain = name.strip("_")
             if name[0].isdigit() and (everything or not any(first <= word.start() < end for first, end in counts)):
                 continue
