@@ -229,7 +229,8 @@ class Compilers:
             self.texts[path] = {(kind, name.decode()) for kind, pattern in patterns for name in pattern.findall(text)}
             marks = [(it.start(), it.group()) for it in NAMED.finditer(text)] if b"__" in text else []
             for condition in CONDITION.finditer(text):
-                marks += [(condition.start() + it.start(), it.group()) for it in HIGH.finditer(condition.group())]
+                high = HIGH.search(condition.group())
+                marks += [(condition.start() + high.start(), high.group())] if high else []
             if marks:
                 self.marks[path] = [(text.count(b"\n", 0, at) + 1, mark.decode("latin-1")) for at, mark in sorted(marks)]
         return self.texts[path]
