@@ -215,6 +215,7 @@ DROPPED_NAMES = [
      [(1, "__attribute__", "g"), (2, "__asm__", "k")]),
     ('static int w(void) __attribute__((__weakref__("a" "@b")));\nvoid m(void) { __asm__("nop"); __asm__ volatile ("mov %0" : "=r" (n)); }',
      [(1, "__attribute__", "a"), (1, "__attribute__", "b"), (2, "__asm__", "n")]),
+    ('int f(void) { register int r __asm__ ("eax"); return r; }', []),
     ("void f(int n) __attribute__((nonnull(1), cleanup(g), noreturn));", [(1, "__attribute__", "1"), (1, "__attribute__", "g")]),
 ]
 

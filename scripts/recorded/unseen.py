@@ -12,7 +12,7 @@ COUNTING = re.compile(r"\b(?:__)?(?:access|alloc_align|alloc_size|fd_arg|fd_arg_
                       r"|null_terminated_string_arg)(?:__)?\s*\(([^()]*)\)")
 # What stands before a string in which an attribute names a function or an object; and before the one that gives a declarator its name.
 NAMING = re.compile(r'\b(?:__)?(?:alias|ifunc|symver|weakref)(?:__)?\s*\(\s*(?:"[^"]*"\s*)*\Z')
-DECLARED = re.compile(r"[\w)\]]\s*\Z")
+DECLARED = re.compile(r"(?:\A|[;{}])(?![^;{}]*\bregister\b)[^;{}]*[\w)\]]\s*\Z")
 # What attributes are called, and the words that stand in them.
 ATTRIBUTES = set("""access alias aligned alloc_align alloc_size always_inline artificial assume_aligned bounded btf_tag cdecl
  cleanup cold common const constructor copy deprecated designated_init destructor diagnose_if dllexport dllimport error externally_visible
@@ -85,7 +85,7 @@ def dropped_names(text, everything=False):
         if not everything and re.match(r"\s*#\s*(define|undef|ifdef|ifndef|if|elif)\b", before):
             continue
         counts = [it.span(1) for it in COUNTING.finditer(operand)]
-        label = "asm" in found.group(1) and DECLARED.search(text[:found.start()]) and re.fullmatch(r'\s*"[A-Za-z_]\w*"\s*', operand)
+        label = "asm" in found.group(1) and DECLARED.search(text[max(0, found.start() - 400):found.start()]) and re.fullmatch(r'\s*"[A-Za-z_]\w*"\s*', operand)
         for word in WORD.finditer(operand):
             name = word.group(0)
             if name[0] == '"' and (label or NAMING.search(operand[:word.start()])):
