@@ -31,6 +31,8 @@ use Rattle.rename_rules.proofs.FailingLemmas.{quiet, still_quiet}
 use Rattle.rename_rules.specs.Offences.{member_offences, spelling_offences, offences_of}
 use Rattle.rename_rules.specs.Offences.{read_only_place, read_only_places, reserved_place, reserved_places, kept_string_places, stringized_places, header_places, no_identifier_place, no_identifier_places, occurring_place, occurring_places, clashing_place, clashing_places, too_large_places, shadowed_places}
 use Rattle.rename_rules.specs.Escapes.{escaped_places, escaped_places_of, is_backslash, is_escaped}
+use Rattle.rename_rules.specs.LibraryNames.{is_closed_in, is_further_word}
+use Rattle.rename_rules.specs.LibraryPlaces.{library_places}
 use Rattle.rename_rules.specs.Prefixes.{prefix_places}
 use Rattle.rename_rules.specs.Tokens.{all_file_tokens, pasted_tokens, start_of, starts_in, holders, is_new_spelling, clashes}
 use Rattle.offences.specs.Tokens.{member_of, holds_member, first_place}
@@ -201,12 +203,16 @@ module _ (a : AnalysisValue) (members : List Part) (name : List ℕ) (none : Non
   unfolding reserved_places
   holder_free t i held =
       let gnu : Bool = has_gnu a in
-      let both = or_parts (is_reserved_in gnu t.text) (is_reserved_in gnu (spelled members name t))
-      (if_nil (is_reserved_in gnu t.text || is_reserved_in gnu (spelled members name t)) (starts_in members t) (some_start members t held)
+      let new : List ℕ = spelled members name t in
+      let words : List Pos = flat_map (reserved_place gnu members name) (holders a members) in
+      let joined : List Pos = prefix_places members name 0 a.table in
+      let both = or_parts (is_reserved_in gnu t.text) (is_closed_in gnu new)
+      (if_nil (is_reserved_in gnu t.text || is_closed_in gnu new) (starts_in members t) (some_start members t held)
       (flat_nil (reserved_place gnu members name) (holders a members) t
-      (nil_left (flat_map (reserved_place gnu members name) (holders a members)) (prefix_places members name 0 a.table) none.reserved) i)) in (
+      (nil_left words joined (nil_left (words ++ joined) (library_places a members name) none.reserved)) i)) in
+      let open_ = or_parts (is_reserved_in gnu new) (gnu && is_further_word new) both.1 in (
         (or_parts (is_reserved_text t.text) (gnu && is_reserved_by_gnu t.text) both.0).0,
-        (or_parts (is_reserved_text (spelled members name t)) (gnu && is_reserved_by_gnu (spelled members name t)) both.1).0,
+        (or_parts (is_reserved_text new) (gnu && is_reserved_by_gnu new) open_.0).0,
       )
 
   -- two that are spelled alike anew were spelled alike

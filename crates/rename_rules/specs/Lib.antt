@@ -5,6 +5,8 @@ pub mod Escapes
 pub mod Runs
 pub mod Undeclared
 pub mod GnuOffences
+pub mod LibraryNames
+pub mod LibraryPlaces
 pub mod Offences
 pub mod InUnits
 pub mod Renaming

@@ -17,6 +17,8 @@ use Rattle.analysis.specs.Analysis.{UnitAnalysis, AnalysisValue}
 use Rattle.analysis.specs.Places.{is_read_only}
 use Rattle.rename_rules.specs.GnuOffences.{has_gnu, gnu_offences, with_failing}
 use Rattle.rename_rules.specs.Escapes.{escaped_places}
+use Rattle.rename_rules.specs.LibraryNames.{is_closed_in}
+use Rattle.rename_rules.specs.LibraryPlaces.{library_places}
 use Rattle.rename_rules.specs.Prefixes.{prefix_places}
 use Rattle.rename_rules.specs.Runs.{runs, is_too_large, new_size_of_all}
 use Rattle.rename_rules.specs.Tokens.{all_file_tokens, pasted_tokens, holders, starts_in, is_new_spelling, is_old_spelling, clashes}
@@ -32,15 +34,18 @@ read_only_place a m = if is_read_only a.table a.workspace.readonly m.start.file 
 unfoldable pub read_only_places : AnalysisValue → List Part → List Pos
 read_only_places a members = flat_map (read_only_place a) members
 
--- Reserved: a member in a file token or pasted token whose old or new spelling is reserved; where a unit is of GNU C more are
+-- Reserved: a member in a file token or pasted token whose old spelling is reserved, or whose new one no name may take; where a unit is
+-- of GNU C there are more
 abbrev pub reserved_place : Bool → List Part → List ℕ → Token → List Pos
 reserved_place gnu members name t =
-    if is_reserved_in gnu t.text || is_reserved_in gnu (spelled members name t) then starts_in members t else []
+    if is_reserved_in gnu t.text || is_closed_in gnu (spelled members name t) then starts_in members t else []
 
--- Reserved: such a member, and one in a name that would become the prefix of a constant
+-- Reserved: such a member, one in a name that would become the prefix of a constant, and one in a name with linkage that would become
+-- one of the library
 unfoldable pub reserved_places : AnalysisValue → List Part → List ℕ → List Pos
 reserved_places a members name =
     flat_map (reserved_place (has_gnu a) members name) (holders a members) ++ prefix_places members name 0 a.table
+    ++ library_places a members name
 
 -- Stringized: a member in a token that `#` made a string of (6.10.3.2)
 unfoldable pub stringized_places : AnalysisValue → List Part → List Pos

@@ -15,6 +15,9 @@
 //! none of these has to do with the class; and where nothing else stands, `failing` reads and binds its renamed
 //! tokens, and holds both against what they were. The plan of a whole renaming, and what a renaming keeps, belong
 //! to the crates above. Read the first four files in this order.
+//!
+//! Where something with linkage would get a name of the C library (`specs/LibraryNames.antt`) is said by `specs/LibraryPlaces.antt`;
+//! `reserved` asks for it, and walks units only where some token would be spelled so.
 #![tactic(auto)]
 
 mod bare_offences;
@@ -25,6 +28,8 @@ mod failing_units;
 mod first_calls;
 mod gnu_texts;
 mod held_tokens;
+mod library_names;
+mod library_places;
 mod member_offences;
 mod occurrences;
 mod project_names;

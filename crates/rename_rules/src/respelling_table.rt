@@ -2,8 +2,10 @@
 ghost use Rattle.std.specs.Prelude.{◌≡◌, ◌&&◌, IfOk, OnOk};
 ghost use Rattle.std.specs.List.{list_any};
 ghost use Rattle.std.specs.Str.{bytes_eq};
-ghost use Rattle.rename_rules.specs.Respellings.{respelling, respelling_of, Adds, AreRespellings, is_old, is_new, is_clash};
+ghost use Rattle.rename_rules.specs.LibraryNames.{is_library_name};
+ghost use Rattle.rename_rules.specs.Respellings.{RespellingValue, respelling, respelling_of, Adds, AreRespellings, is_old, is_new, is_clash};
 
+use crate::library_names::is_library_name;
 use crate::spelling::spelled;
 use cs_base::{Memory, Tok};
 use offences::Class;
@@ -49,6 +51,12 @@ impl Respelling {
     {
         self.is_old(old) && self.is_new(new)
     }
+
+    fn is_of_library(&self) -> bool
+        ensures { result ≡ is_library_name self.now.new }
+    {
+        is_library_name(&self.new)
+    }
 }
 
 /// Whether a token had this spelling.
@@ -70,6 +78,13 @@ pub fn is_clash(table: &[Respelling], old: &[u8], new: &[u8]) -> bool
     ensures { result ≡ list_any (is_clash old.now new.now) table.now }
 {
     table.iter().any(|r| r.is_clash(old, new))
+}
+
+/// Whether a token gets a spelling that is a name of the library.
+pub(crate) fn has_library_name(table: &[Respelling]) -> bool
+    ensures { result ≡ list_any (λ (r : RespellingValue). is_library_name r.new) table.now }
+{
+    table.iter().any(|r| r.is_of_library())
 }
 
 // Whether the spellings stand in the table.

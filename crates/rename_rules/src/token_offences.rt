@@ -4,10 +4,13 @@ ghost use Rattle.std.specs.List.{flat_map};
 ghost use Rattle.cs_base.specs.Reserved.{is_reserved_in};
 ghost use Rattle.cs_base.specs.declared.causes.Cause.TheVariants as cause;
 ghost use Rattle.offences.specs.First.{standing, FirstThen};
+ghost use Rattle.rename_rules.specs.LibraryNames.{is_closed_in};
 ghost use Rattle.rename_rules.specs.Offences.{reserved_place, reserved_places, clashing_place, clashing_places};
 ghost use Rattle.rename_rules.specs.RenamingValue.{held};
 
 use crate::constant_prefixes::prefixes;
+use crate::library_names::is_closed_in;
+use crate::library_places::library_names;
 use crate::member_offences::in_token;
 use crate::renamings::Renaming;
 use crate::respelling_table::is_clash;
@@ -18,11 +21,11 @@ use cs_base::{Cause, Memory, Tok, is_reserved_in};
 use offences::{Class, Offence};
 use std::alloc::Global;
 
-// Whether the old or the new spelling of a token is reserved.
+// Whether the old spelling of a token is reserved, or no name may take the new one.
 fn is_reserved(gnu: bool, tok: &Tok, new: &[u8]) -> bool
-    ensures { result ≡ (is_reserved_in gnu tok.now.text || is_reserved_in gnu new.now) }
+    ensures { result ≡ (is_reserved_in gnu tok.now.text || is_closed_in gnu new.now) }
 {
-    is_reserved_in(gnu, tok.text()) || is_reserved_in(gnu, new)
+    is_reserved_in(gnu, tok.text()) || is_closed_in(gnu, new)
 }
 
 // `Reserved` in a token.
@@ -66,7 +69,8 @@ fn reserved_in_all(
 }
 
 /// `Reserved`: at each member in a token whose old or new spelling is reserved, or whose new spelling would become the
-/// prefix of a constant behind it. Where a unit is of GNU C, its words are reserved too.
+/// prefix of a constant behind it, or, of something with linkage, is a name of the library. Where a unit is of GNU C, its words are
+/// reserved too.
 pub fn reserved(
     alloc: Global,
     renaming: &Renaming<'_>,
@@ -78,7 +82,7 @@ pub fn reserved(
     let class = renaming.class();
     let a = class.analysis();
     let gnu = has_gnu(a);
-    let now = reserved_in_all(
+    let words = reserved_in_all(
         alloc,
         a,
         class,
@@ -87,7 +91,8 @@ pub fn reserved(
         renaming.toks(),
         first,
     )?;
-    prefixes(alloc, a, renaming, now)
+    let joined = prefixes(alloc, a, renaming, words)?;
+    library_names(alloc, renaming, joined)
 }
 
 // `Clash` in a token.

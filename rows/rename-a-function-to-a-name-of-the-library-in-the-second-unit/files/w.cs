@@ -1,0 +1,2 @@
+file b.c
+file a.c

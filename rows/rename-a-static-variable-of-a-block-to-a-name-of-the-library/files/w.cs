@@ -1,0 +1,2 @@
+standard gnu11
+file a.c

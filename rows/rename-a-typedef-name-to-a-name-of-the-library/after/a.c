@@ -1,0 +1,3 @@
+typedef int time;
+#define HALF(x) ((x) / 2)
+int g(time s) { return HALF(s); }

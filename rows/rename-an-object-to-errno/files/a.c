@@ -1,0 +1,1 @@
+void f(void) { extern int last; last = 1; }

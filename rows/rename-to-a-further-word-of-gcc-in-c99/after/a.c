@@ -1,0 +1,1 @@
+int f(int _Accum) { return _Accum; }
