@@ -69,7 +69,7 @@ thread_names =
     ++ codes "mtx_timedlock mtx_trylock mtx_unlock thrd_create thrd_current thrd_detach thrd_equal thrd_exit\n"
     ++ codes "thrd_join thrd_sleep thrd_yield tss_create tss_delete tss_get tss_set\n"
 
--- functions that gcc has built in and the standard has not, and three macros of 7.21.1 that libraries have as objects
+-- functions that gcc has built in and the standard has not, and objects that libraries and linkers of today have, as the three of 7.21.1
 unfoldable pub own_names : List ℕ
 own_names =
     codes "__clear_cache __cyg_profile_func_enter __cyg_profile_func_exit __fprintf_chk __memcpy_chk\n"
@@ -93,7 +93,10 @@ own_names =
     ++ codes "signbitd128 signbitd32 signbitd64 signbitf signbitl significand significandf significandl sincos\n"
     ++ codes "sincosf sincosl sqrtf128 sqrtf16 sqrtf32 sqrtf32x sqrtf64 sqrtf64x stpcpy stpncpy strcasecmp strdup\n"
     ++ codes "strfmon strncasecmp strndup strnlen toascii truncf128 truncf16 truncf32 truncf32x truncf64 truncf64x\n"
-    ++ codes "y0 y0f y0l y1 y1f y1l yn ynf ynl stdin stdout stderr\n"
+    ++ codes "y0 y0f y0l y1 y1f y1l yn ynf ynl stdin stdout stderr environ optarg opterr optind optopt daylight\n"
+    ++ codes "getdate_err h_errno signgam sys_errlist sys_nerr timezone tzname program_invocation_name\n"
+    ++ codes "program_invocation_short_name __bss_start __curbrk __environ __libc_start_main __progname\n"
+    ++ codes "__progname_full _IO_2_1_stderr_ _IO_2_1_stdin_ _IO_2_1_stdout_ _edata _end _etext\n"
 
 -- words more of gcc, which a program in GNU C cannot declare
 unfoldable pub further_words : List ℕ

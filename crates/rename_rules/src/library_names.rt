@@ -88,7 +88,10 @@ roundevenl roundf128 roundf16 roundf32 roundf32x roundf64 roundf64x scalb scalbf
 signbitd128 signbitd32 signbitd64 signbitf signbitl significand significandf significandl sincos
 sincosf sincosl sqrtf128 sqrtf16 sqrtf32 sqrtf32x sqrtf64 sqrtf64x stpcpy stpncpy strcasecmp strdup
 strfmon strncasecmp strndup strnlen toascii truncf128 truncf16 truncf32 truncf32x truncf64 truncf64x
-y0 y0f y0l y1 y1f y1l yn ynf ynl stdin stdout stderr
+y0 y0f y0l y1 y1f y1l yn ynf ynl stdin stdout stderr environ optarg opterr optind optopt daylight
+getdate_err h_errno signgam sys_errlist sys_nerr timezone tzname program_invocation_name
+program_invocation_short_name __bss_start __curbrk __environ __libc_start_main __progname
+__progname_full _IO_2_1_stderr_ _IO_2_1_stdin_ _IO_2_1_stdout_ _edata _end _etext
 ";
 
 const FURTHER_WORDS: &[u8] =
