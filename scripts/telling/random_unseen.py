@@ -73,6 +73,8 @@ def with_idle(r, files):
 def row(r, analysis):
     """A rename of a class with more words of its spelling than members, or with one in a string of `_Pragma`, if there is one."""
     classes = [members for members in analysis.classes_by_place() if any(m.tok.at in analysis.nameable for m in members)]
+    # units with the same lines begin with one pseudo file, which the model has for each
+    classes = [members for members in classes if not analysis.place(members[0].start).path.startswith(b"<")]
     more = [members for members in classes if len(list(words_of(analysis, members[0].text))) > len(members)]
     quoted = [members for members in classes if any(quoted_words(analysis, members[0].text))]
     drawn = r.random()
