@@ -3,4 +3,4 @@ pub mod KeepLemmas
 pub mod MarkLemmas
 pub mod ReadOnlyLemmas
 pub mod RoleLemmas
-mod TouchLemmas
+mod ClassRoleLemmas

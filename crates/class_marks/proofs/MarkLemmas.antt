@@ -49,7 +49,7 @@ found_parts t (Some f) parts class = (parts, class)
 -- ---- characters of one part
 
 -- each character of a part has its class
-within_class : (t : Table) (part : Part) (c : ℕ) (p : Pos) → HasParts t → class_in t part ≡ Some c → holds part p ≡ true → class_at t (Some p) ≡ Some c
+pub within_class : (t : Table) (part : Part) (c : ℕ) (p : Pos) → HasParts t → class_in t part ≡ Some c → holds part p ≡ true → class_at t (Some p) ≡ Some c
 within_class t part c p parts class held =
     let h = holding part p held in
     let o = p.at - part.start.at in

@@ -1,5 +1,5 @@
 -- What marks on classes tell of names.
-use Rattle.std.proofs.Common.{◌≡◌, ℕ, zero, suc, ◌<◌, Bool, true, false, List, [], ◌∷◌, Option, Some, None, length, slice_get, inl, inr, refl, sym, ap, ◌∙◌}
+use Rattle.std.proofs.Common.{◌≡◌, ℕ, zero, suc, ◌<◌, Bool, true, false, List, [], ◌∷◌, Option, Some, None, length, slice_get, inl, inr, refl, sym, ap, ◌∙◌, arith}
 use Rattle.std.specs.Prelude.{slice_index_or}
 use Rattle.std.specs.List.{list_any}
 use Rattle.std.specs.Option.{option_and_then}
@@ -11,15 +11,17 @@ use Rattle.cs_base.specs.Token.{Token}
 use Rattle.cs_base.proofs.ListLemmas.{any_at as any_from}
 use Rattle.eclass_map.specs.ClassTable.{Table, class_in, part_of}
 use Rattle.eclass_map.specs.Positions.{holds}
+use Rattle.eclass_map.proofs.TokenFacts.{holds_from}
 use Rattle.analysis.proofs.PartLemmas.{held_character, part_once}
 use Rattle.analysis.specs.Analysed.{Analysed}
 use Rattle.analysis.specs.Classes.{AreItsClasses}
 use Rattle.analysis.specs.Parts.{Holds, IsPart}
-use Rattle.analysis.proofs.ClassLemmas.{held_by, member_walked, walked_member}
+use Rattle.analysis.proofs.ClassLemmas.{held_by, member_walked, part_held, walked_member}
 use Rattle.class_marks.specs.declared.roles.Role.{Role}
 use Rattle.class_marks.specs.Marks.{class_at, is_class, touches, AreMarked}
 use Rattle.class_marks.specs.Roles.{names_with}
 use Rattle.class_marks.specs.Touching.{HasRole, Touches}
+use Rattle.class_marks.proofs.MarkLemmas.{within_class}
 
 -- ---- tests of lists
 
@@ -69,6 +71,15 @@ origin_found : (t : Token) (k : ℕ) (p : Pos) (o : Option (Option Pos)) → sli
     → slice_get t.origins k ≡ Some (Some p)
 origin_found t k p None at is = absurd (none-some p is)
 origin_found t k p (Some origin) at is = at ∙ ap (λ (q : Option Pos). Some q) is
+
+-- the class of the character with which a part begins is its own
+pub start_class : (a : Analysed) → AreItsClasses a.value a.classes → (part : Part) → IsPart a.value part
+    → class_at a.classes (Some part.start) ≡ class_in a.classes part
+start_class a own part it =
+    let n = own.parts.each part (part_held a.value a.classes own part it) in
+    let some = it.some in
+    let held : holds part part.start ≡ true = holds_from part part.start (record { file = refl; from = omega arith; less = omega (arith, some) }) in
+    within_class a.classes part n.0 part.start own.parts n.1 held ∙ sym n.1
 
 -- ---- names of a class
 

@@ -2,6 +2,6 @@
 pub mod Roles
 pub mod Touching
 pub mod Marks
-pub mod Touches
+pub mod ClassRoles
 -- What inner functions promise each other, and those of crates above.
 pub mod Keeping

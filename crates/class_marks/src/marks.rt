@@ -246,6 +246,17 @@ pub fn class_number(a: &Analysis, part: Part) -> Option<u32>
     a.classes().class_of(part)
 }
 
+/// The same, where what was found last is tried first.
+pub fn class_number_near(a: &Analysis, part: Part, guess: &mut usize) -> Option<u32>
+    requires { IsPart a.now.value part }
+    ensures { result ≡ class_in a.now.classes part }
+{
+    match found_at(a.classes(), Some(part.start), guess) {
+        Some(found) => Some(found.class),
+        None => None,
+    }
+}
+
 /// Whether the class of a part, which has this number, is marked: whether some name with the role of the marks touches it.
 pub fn is_class_marked(a: &Analysis, marks: &[bool], part: Part, class: Option<u32>) -> bool
     requires part { IsPart a.now.value part }

@@ -1,6 +1,7 @@
 // Classes with members in files that are not edited.
 ghost use Rattle.std.specs.Prelude.{◌≡◌, IfOk, MatchBool};
-ghost use Rattle.analysis.specs.Parts.{IsPart};
+ghost use Rattle.cs_base.specs.declared.positions.Part.{Part as APart};
+ghost use Rattle.analysis.specs.Parts.{AreMembers, IsPart};
 ghost use Rattle.analysis.specs.Places.{is_read_only};
 ghost use Rattle.class_marks.specs.Touching.{AreReadOnly, IsReadOnlyClass};
 
@@ -31,17 +32,25 @@ fn is_read_only(a: &Analysis, files: &[bool], number: u32) -> bool
     }
 }
 
-/// Whether some member of the class lies in a read-only file.
-pub fn has_read_only(a: &Analysis, files: &[bool], part: Part) -> bool
-    requires part { IsPart a.now.value part }
-    requires files { AreReadOnly a.now.value files.now }
-    ensures { MatchBool result (IsReadOnlyClass a.now.value part) (IsReadOnlyClass a.now.value part → ⊥) }
+/// Whether some member of a class with these members lies in a read-only file.
+pub fn any_read_only(a: &Analysis, files: &[bool], members: &[Part]) -> bool
+    requires { AreReadOnly a.now.value files.now }
+    ensures { (part : APart) → AreMembers a.now.value part members.now
+        → MatchBool result (IsReadOnlyClass a.now.value part) (IsReadOnlyClass a.now.value part → ⊥) }
 {
-    let members = a.members(part);
     for member in members {
         if is_read_only(a, files, member.start.file) {
             return true;
         }
     }
     false
+}
+
+/// The same, where its members are not known.
+pub fn has_read_only(a: &Analysis, files: &[bool], part: Part) -> bool
+    requires part { IsPart a.now.value part }
+    requires files { AreReadOnly a.now.value files.now }
+    ensures { MatchBool result (IsReadOnlyClass a.now.value part) (IsReadOnlyClass a.now.value part → ⊥) }
+{
+    any_read_only(a, files, a.members(part))
 }

@@ -40,7 +40,7 @@ pub(crate) fn is_parameter(kind: Option<EntityKind>) -> bool
 }
 
 // Whether a token that is bound to an entity declares it, where it is no parameter.
-fn does_declare(bound: &Bound, k: u32, entity: u32) -> bool
+pub(crate) fn does_declare(bound: &Bound, k: u32, entity: u32) -> bool
     ensures { result ≡ does_declare bound.now.names k entity }
 {
     bound.declares(k) && !is_parameter(bound.kind(entity))

@@ -1,5 +1,6 @@
 pub mod FoundLemmas
 pub mod GrammarLemmas
 mod KeywordLemmas
+mod OrderLemmas
 pub mod QuestionLemmas
 pub mod TokenLemmas

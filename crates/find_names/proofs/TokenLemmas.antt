@@ -1,5 +1,5 @@
--- The file tokens as a set: tokens that are added one after another.
-use Rattle.std.proofs.Common.{◌≡◌, ℕ, ◌+◌, ◌<◌, ◌≤◌, Bool, true, false, ◌||◌, ◌&&◌, cond, List, [], ◌∷◌, ◌++◌, Option, None, Some, Result, Ok, Err, length, get_or, take, drop, slice_get, refl, sym, ap, ◌∙◌, subst}
+-- The file tokens: tokens that are added one after another.
+use Rattle.std.proofs.Common.{◌≡◌, ℕ, ◌+◌, ◌<◌, ◌≤◌, Bool, true, false, ◌||◌, ◌&&◌, List, [], ◌∷◌, ◌++◌, Option, None, Some, Result, Ok, Err, length, get_or, take, drop, slice_get, refl, sym, ap, ◌∙◌, subst}
 use Rattle.std.specs.Prelude.{MatchBool, OnOk, filter, nat_eq}
 use Rattle.std.specs.List.{list_any}
 use Rattle.std.specs.Option.{option_map, option_map_or}
@@ -21,14 +21,9 @@ use Rattle.analysis.specs.FileTokens.{IsFileToken, file_tokens, kept_tokens, spa
 use Rattle.analysis.proofs.TableLemmas.{parted-more as table_more}
 use Rattle.class_marks.proofs.AnswerLemmas.{told}
 use Rattle.class_marks.proofs.RoleLemmas.{some_passes}
-use Rattle.unused_names.proofs.LineLemmas.{or_cond}
 use Rattle.find_names.specs.FileTokens.{is_part, is_span}
 
 -- ---- tests
-
--- the set with one part more
-pub put_more : (old new put : Bool) → new ≡ cond put true old → new ≡ (old || put)
-put_more old new put is = is ∙ or_cond put old
 
 pub same_part : (p q : Part) → is_part p q ≡ true → p ≡ q
 same_part p q passed =
@@ -111,7 +106,7 @@ tokens_are a part none files all is first second =
     ∙ ap (λ (b : Bool). b || list_any (is_span part) (all_brought a.units)) (first ∙ ap (λ (b : Bool). b || list_any (is_span part) (table_tokens 0 a.table)) is)
     ∙ sym (list_any-append (is_span part) (table_tokens 0 a.table) (all_brought a.units))
 
--- what the set tells
+-- what they tell
 mapped_some : {X Y : Type 0} (f : X → Y) (o : Option X) (y : Y) → option_map f o ≡ Some y → (x : X) × (o ≡ Some x) × (f x ≡ y)
 mapped_some f None y is = absurd (none-some y is)
 mapped_some f (Some x) y is = (x, refl, same_Some (f x) y is)

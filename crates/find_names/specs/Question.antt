@@ -1,12 +1,12 @@
 -- Which classes a query asks of (this project's): those of which some member is named by its place, and none is a
 -- keyword.
-use Rattle.std.specs.Prelude.{ℕ, ◌≡◌, true, Some}
+use Rattle.std.specs.Prelude.{ℕ, ◌≡◌, true, Some, List}
 use Rattle.cs_base.specs.declared.positions.Part.{Part}
 use Rattle.cs_base.specs.declared.positions.Place.{Place}
 use Rattle.analysis.specs.Analysis.{AnalysisValue}
 use Rattle.analysis.specs.FileTokens.{IsFileToken}
 use Rattle.analysis.specs.Naming.{Names}
-use Rattle.analysis.specs.Parts.{IsMember}
+use Rattle.analysis.specs.Parts.{AreMembers, IsFirst, IsMember}
 use Rattle.analysis.specs.Places.{place_at}
 use Rattle.analysis.specs.Spellings.{spelling_of}
 use Rattle.find_names.specs.Keywords.{is_keyword}
@@ -40,3 +40,8 @@ pub record IsKeywordClass (a : AnalysisValue) (part : Part) : Type 0 where
 pub record IsInQuestion (a : AnalysisValue) (part : Part) : Type 0 where
   pub nameable : IsNameable a part
   pub no_keyword : IsKeywordClass a part → ⊥
+
+-- the first member of a class, and all its members
+pub record IsClass (a : AnalysisValue) (part : Part) (members : List Part) : Type 0 where
+  pub first : IsFirst a part
+  pub are_members : AreMembers a part members

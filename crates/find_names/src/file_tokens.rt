@@ -1,17 +1,20 @@
-// The file tokens of an analysis, as a set.
-ghost use Rattle.std.specs.Prelude.{◌≡◌, ◌||◌, ◌∷◌, [], false, IfOk, OnOk, MatchBool, filter};
+// Where the file tokens of an analysis stand, in order.
+ghost use Rattle.std.specs.Prelude.{◌≡◌, ◌<◌, ◌≤◌, ◌||◌, ◌∷◌, [], ℕ, Some, IfOk, OnOk, MatchBool, filter, length, slice_get};
 ghost use Rattle.std.specs.List.{list_any};
+ghost use Rattle.std.specs.List.Sorted.{IsNonDecreasingBy};
 ghost use Rattle.std.specs.Option.{option_map_or};
 ghost use Rattle.cs_base.specs.Token.{has_origins};
 ghost use Rattle.cs_base.specs.declared.positions.Part.{Part};
 ghost use Rattle.analysis.specs.Below.source_files.KeptFiles.{kept_at};
 ghost use Rattle.analysis.specs.FileTokens.{IsFileToken, file_tokens, kept_tokens, span_of, table_tokens};
-ghost use Rattle.find_names.specs.FileTokens.{AreFileTokens, has_span, is_span};
+ghost use Rattle.find_names.specs.FileTokens.{AreFileTokens, has_span, is_part, is_span, place_number};
 
 use analysis::{Analysis, KeptFile};
 use cs_base::{Kind, Memory, Part, Pos, Tok};
-use indexmap::IndexSet;
 use std::alloc::Global;
+
+// The characters of a file have lower numbers.
+const FILE_SIZE: u64 = 1 << 32;
 
 // Where a token begins, and how many characters it has.
 fn span_of(tok: &Tok) -> Part
@@ -32,120 +35,154 @@ fn has_origins(kind: Kind) -> bool
     }
 }
 
-/// File tokens, by file, first character and length.
+/// Whether two parts are one.
+pub(crate) fn is_part(part: Part, other: Part) -> bool
+    ensures { result ≡ is_part part other }
+{
+    (part.start.file == other.start.file && part.start.at == other.start.at)
+        && part.len == other.len
+}
+
+// The number of the place where a part begins, by which it is looked for.
+fn place_number(part: Part) -> u64
+    ensures { result ≡ place_number part }
+{
+    part.start.file as u64 * FILE_SIZE + part.start.at as u64
+}
+
+fn push(spans: &mut Vec<Part>, tok: &Tok) -> Result<(), Memory>
+    ensures { OnOk result ((part : Part) → has_span spans.new.items part ≡ (has_span spans.old.items part || is_span part tok.now)) }
+{
+    spans.push(span_of(tok))?;
+    Ok(())
+}
+
+// Adds these tokens.
+fn push_all(spans: &mut Vec<Part>, toks: &[Tok]) -> Result<(), Memory>
+    ensures { OnOk result ((part : Part) → has_span spans.new.items part ≡ (has_span spans.old.items part || list_any (is_span part) toks.now)) }
+{
+    for tok in toks {
+        push(spans, tok)?;
+    }
+    Ok(())
+}
+
+// Adds a token of a file, if it has parts.
+fn push_token(spans: &mut Vec<Part>, tok: &Tok) -> Result<(), Memory>
+    ensures { OnOk result ((part : Part) → has_span spans.new.items part
+        ≡ (has_span spans.old.items part || list_any (is_span part) (filter (λ t. has_origins t.kind) (tok.now ∷ [])))) }
+{
+    if has_origins(tok.kind()) {
+        push(spans, tok)
+    } else {
+        Ok(())
+    }
+}
+
+// Adds those of a file.
+fn push_file(spans: &mut Vec<Part>, file: &KeptFile) -> Result<(), Memory>
+    ensures { OnOk result ((part : Part) → has_span spans.new.items part
+        ≡ (has_span spans.old.items part || list_any (is_span part) (kept_tokens file.now))) }
+{
+    let toks = file.text().toks();
+    for tok in toks {
+        push_token(spans, tok)?;
+    }
+    Ok(())
+}
+
+// Adds those of the kept file with this number, if there is one.
+fn push_numbered(spans: &mut Vec<Part>, a: &Analysis, number: u32) -> Result<(), Memory>
+    ensures { OnOk result ((part : Part) → has_span spans.new.items part
+        ≡ (has_span spans.old.items part || list_any (is_span part) (option_map_or kept_tokens (kept_at a.now.value.table number) []))) }
+{
+    match a.file(number) {
+        Some(file) => push_file(spans, file),
+        None => Ok(()),
+    }
+}
+
+// Adds those of all kept files.
+fn push_files(spans: &mut Vec<Part>, a: &Analysis) -> Result<(), Memory>
+    ensures { OnOk result ((part : Part) → has_span spans.new.items part
+        ≡ (has_span spans.old.items part || list_any (is_span part) (table_tokens 0 a.now.value.table))) }
+{
+    for number in 0..a.files() {
+        push_numbered(spans, a, number)?;
+    }
+    Ok(())
+}
+
+// Those of an analysis: of files, and the numbers that units brought.
+fn spans_of(alloc: Global, a: &Analysis) -> Result<Vec<Part>, Memory>
+    ensures { IfOk result (λ spans. AreFileTokens a.now.value spans.items) }
+{
+    let mut spans = Vec::new(alloc);
+    push_files(&mut spans, a)?;
+    push_all(&mut spans, a.numbers_brought())?;
+    Ok(spans)
+}
+
+// Puts them into the order of their places.
+fn put_in_order(spans: &mut Vec<Part>) -> Result<(), Memory>
+    ensures same { OnOk result ((part : Part) → has_span spans.new.items part ≡ has_span spans.old.items part) }
+    ensures rising { OnOk result (IsNonDecreasingBy place_number spans.new.items) }
+{
+    spans.sort_by_key(|span| place_number(*span))?;
+    Ok(())
+}
+
+// How many of them, which are in this order, have a lower number.
+fn spans_before(spans: &[Part], number: u64) -> usize
+    requires { IsNonDecreasingBy place_number spans.now }
+    ensures bound { result ≤ length spans.now }
+    ensures lower { (i : ℕ) (span : Part) → slice_get spans.now i ≡ Some span → i < result → place_number span < number }
+{
+    spans.partition_point(|span| place_number(*span) < number)
+}
+
+// Whether one of them is a part: they are looked at from the first at its place on, which is found by halving.
+fn has_span(spans: &[Part], part: Part) -> bool
+    requires { IsNonDecreasingBy place_number spans.now }
+    ensures { result ≡ has_span spans.now part }
+{
+    let number = place_number(part);
+    let from = spans_before(spans, number);
+    for at in from..spans.len() {
+        let one = spans[at];
+        if is_part(one, part) {
+            return true;
+        }
+        if number < place_number(one) {
+            return false;
+        }
+    }
+    false
+}
+
+/// File tokens, in the order of their files, and there of their first characters.
 #[derive(Drop)]
 pub(crate) struct FileTokens {
-    spans: IndexSet<((u32, u32), u32)>,
+    spans: Vec<Part>,
+    ghost rising: { IsNonDecreasingBy place_number spans.items },
 }
 
 impl FileTokens {
-    fn new(alloc: Global) -> FileTokens
-        ensures { (part : Part) → has_span result.spans part ≡ false }
-    {
-        FileTokens {
-            spans: IndexSet::new(alloc),
-        }
-    }
-
-    fn push(&mut self, tok: &Tok) -> Result<(), Memory>
-        ensures { OnOk result ((part : Part) → has_span self.new.spans part ≡ (has_span self.old.spans part || is_span part tok.now)) }
-    {
-        let span = span_of(tok);
-        self.spans
-            .insert(((span.start.file, span.start.at), span.len))?;
-        Ok(())
-    }
-
-    // Adds these tokens.
-    fn push_all(&mut self, toks: &[Tok]) -> Result<(), Memory>
-        ensures { OnOk result ((part : Part) → has_span self.new.spans part ≡ (has_span self.old.spans part || list_any (is_span part) toks.now)) }
-    {
-        for tok in toks {
-            self.push(tok)?;
-        }
-        Ok(())
-    }
-
-    // Adds a token of a file, if it has parts.
-    fn push_token(&mut self, tok: &Tok) -> Result<(), Memory>
-        ensures { OnOk result ((part : Part) → has_span self.new.spans part
-            ≡ (has_span self.old.spans part || list_any (is_span part) (filter (λ t. has_origins t.kind) (tok.now ∷ [])))) }
-    {
-        if has_origins(tok.kind()) {
-            self.push(tok)
-        } else {
-            Ok(())
-        }
-    }
-
-    // Adds those of a file.
-    fn push_file(&mut self, file: &KeptFile) -> Result<(), Memory>
-        ensures { OnOk result ((part : Part) → has_span self.new.spans part
-            ≡ (has_span self.old.spans part || list_any (is_span part) (kept_tokens file.now))) }
-    {
-        let toks = file.text().toks();
-        for tok in toks {
-            self.push_token(tok)?;
-        }
-        Ok(())
-    }
-
-    // Room for so many more.
-    fn make_room(&mut self, count: usize) -> Result<(), Memory>
-        ensures { OnOk result ((part : Part) → has_span self.new.spans part ≡ has_span self.old.spans part) }
-    {
-        self.spans.reserve(count)?;
-        Ok(())
-    }
-
-    // The same of a file, with room for all its tokens.
-    fn push_whole(&mut self, file: &KeptFile) -> Result<(), Memory>
-        ensures { OnOk result ((part : Part) → has_span self.new.spans part
-            ≡ (has_span self.old.spans part || list_any (is_span part) (kept_tokens file.now))) }
-    {
-        self.make_room(file.text().toks().len())?;
-        self.push_file(file)
-    }
-
-    // Adds those of the kept file with this number, if there is one.
-    fn push_numbered(&mut self, a: &Analysis, number: u32) -> Result<(), Memory>
-        ensures { OnOk result ((part : Part) → has_span self.new.spans part
-            ≡ (has_span self.old.spans part || list_any (is_span part) (option_map_or kept_tokens (kept_at a.now.value.table number) []))) }
-    {
-        match a.file(number) {
-            Some(file) => self.push_whole(file),
-            None => Ok(()),
-        }
-    }
-
-    // Adds those of all kept files.
-    fn push_files(&mut self, a: &Analysis) -> Result<(), Memory>
-        ensures { OnOk result ((part : Part) → has_span self.new.spans part
-            ≡ (has_span self.old.spans part || list_any (is_span part) (table_tokens 0 a.now.value.table))) }
-    {
-        for number in 0..a.files() {
-            self.push_numbered(a, number)?;
-        }
-        Ok(())
-    }
-
-    /// Those of an analysis: of files, and the numbers that units brought.
+    /// Those of an analysis.
     pub(crate) fn of(alloc: Global, a: &Analysis) -> Result<FileTokens, Memory>
-        ensures { IfOk result (λ tokens. AreFileTokens a.now.value tokens) }
+        ensures { IfOk result (λ tokens. AreFileTokens a.now.value tokens.spans.items) }
     {
-        let mut tokens = FileTokens::new(alloc);
-        tokens.push_files(a)?;
-        tokens.push_all(a.numbers_brought())?;
-        Ok(tokens)
+        let mut spans = spans_of(alloc, a)?;
+        put_in_order(&mut spans)?;
+        Ok(FileTokens { spans })
     }
 
     /// Whether a part is a whole file token.
     pub(crate) fn has(&self, a: &Analysis, part: Part) -> bool
-        requires { AreFileTokens a.now.value self.now }
+        requires { AreFileTokens a.now.value self.now.spans.items }
         ensures { MatchBool result (IsFileToken a.now.value part) (IsFileToken a.now.value part → ⊥) }
     {
         let _files = a.files();
-        self.spans
-            .contains(&((part.start.file, part.start.at), part.len))
+        has_span(&self.spans, part)
     }
 }

@@ -1,6 +1,6 @@
 // The classes that satisfy a query, and their lines.
 ghost use Rattle.std.specs.Prelude.{◌≡◌, ◌<◌, ◌^◌, ◌++◌, Ok, Err, IfErr, IfOk, IfSome, MatchBool, OnOk, length};
-ghost use Rattle.analysis.specs.Parts.{AreMembers, IsFirst, IsPart};
+ghost use Rattle.analysis.specs.Parts.{IsPart};
 ghost use Rattle.analysis.specs.Spellings.{spelling_of};
 ghost use Rattle.query_words.specs.Grammar.{Alternatives, Derives, IsRead};
 ghost use Rattle.query_words.specs.Queries.{Query, value};
@@ -10,8 +10,11 @@ ghost use Rattle.query_words.specs.Telling.{AreTold};
 ghost use Rattle.query_words.specs.Walk.{decided};
 ghost use Rattle.find_names.specs.FileTokens.{AreFileTokens};
 ghost use Rattle.find_names.specs.Found.{IsFound, found_line, PrintsFound, PrintsLine, Refuses};
+ghost use Rattle.find_names.specs.Question.{IsClass};
 ghost use Rattle.find_names.specs.Refusals.{fault_of};
 ghost use Rattle.find_names.specs.RoleMarks.{AreRoleMarks};
+ghost use Rattle.find_names.specs.Satisfying.{HasAttribute};
+ghost use Rattle.query_words.specs.Satisfying.{AreFacts};
 
 use crate::class_facts::facts_of;
 use crate::file_tokens::FileTokens;
@@ -19,6 +22,7 @@ use crate::questions::is_in_question;
 use crate::refusal::FindRefusal;
 use crate::role_marks::{RoleMarks, role_marks};
 use analysis::{Analysis, push_place};
+use class_marks::class_number_near;
 use cs_base::{Memory, Part};
 use itoa::Buffer;
 use query_words::{Compiled, Facts, Room, Told};
@@ -51,32 +55,32 @@ fn is_said(
     }
 }
 
-// Whether the class of a first member is in question and satisfies the query.
+// Whether the class of a first member, which has these members and these attributes, is in question and satisfies the query.
 fn is_found(
     a: &Analysis,
-    marks: &RoleMarks,
     tokens: &FileTokens,
     compiled: &Compiled,
     told: &mut Told,
     query: &[u8],
     part: Part,
+    members: &[Part],
+    facts: &Facts,
     room: &mut Room,
 ) -> Result<bool, Memory>
     requires compiled { IsOf query.now compiled.now }
-    requires first { IsFirst a.now.value part }
-    requires marks { AreRoleMarks a.now marks.now }
-    requires tokens { AreFileTokens a.now.value tokens.now }
+    requires class { IsClass a.now.value part members.now }
+    requires facts { AreFacts (HasAttribute a.now.value part) facts.now }
+    requires tokens { AreFileTokens a.now.value tokens.now.spans.items }
     requires told { AreTold query.now told.old }
     ensures told { OnOk result (AreTold query.now told.new) }
     ensures answer { IfOk result (λ b. (q : Query) → parsed query.now ≡ Ok q
         → MatchBool b (IsFound a.now.value q part) (IsFound a.now.value q part → ⊥)) }
 {
-    let facts = facts_of(a, marks, tokens, part);
-    let satisfied = is_said(a, compiled, told, query, &facts, part, room)?;
+    let satisfied = is_said(a, compiled, told, query, facts, part, room)?;
     if !satisfied {
         return Ok(false);
     }
-    Ok(is_in_question(a, tokens, part))
+    Ok(is_in_question(a, tokens, part, members))
 }
 
 // Adds the line of a class of so many members, by its first one.
@@ -94,12 +98,11 @@ fn push_counted(text: &mut Vec<u8>, a: &Analysis, part: Part, count: usize) -> R
     Ok(())
 }
 
-// Adds the line of a class, by its first member.
-fn push_line(text: &mut Vec<u8>, a: &Analysis, part: Part) -> Result<(), Memory>
-    requires { IsPart a.now.value part }
+// Adds the line of a class, by its first member and all its members.
+fn push_line(text: &mut Vec<u8>, a: &Analysis, part: Part, members: &[Part]) -> Result<(), Memory>
+    requires { IsClass a.now.value part members.now }
     ensures { OnOk result (PrintsLine a.now.value part text.old.items text.new.items) }
 {
-    let members = a.members(part);
     push_counted(text, a, part, members.len())?;
     Ok(())
 }
@@ -115,19 +118,23 @@ fn lines(
 ) -> Result<Vec<u8>, Memory>
     requires compiled { IsOf query.now compiled.now }
     requires marks { AreRoleMarks a.now marks.now }
-    requires tokens { AreFileTokens a.now.value tokens.now }
+    requires tokens { AreFileTokens a.now.value tokens.now.spans.items }
     ensures { IfOk result (λ text. (q : Query) → parsed query.now ≡ Ok q → PrintsFound a.now.value q text.items) }
 {
     let firsts = a.firsts();
     let mut told = Told::of(alloc, query);
     let mut room = Room::new(alloc);
     let mut text = Vec::new(alloc);
+    let mut guess = 0;
     for part in firsts {
+        let class = class_number_near(a, *part, &mut guess);
+        let members = a.members(*part);
+        let facts = facts_of(a, marks, tokens, *part, class, members);
         let found = is_found(
-            a, marks, tokens, compiled, &mut told, query, *part, &mut room,
+            a, tokens, compiled, &mut told, query, *part, members, &facts, &mut room,
         )?;
         if found {
-            push_line(&mut text, a, *part)?;
+            push_line(&mut text, a, *part, members)?;
         }
     }
     Ok(text)

@@ -1,11 +1,11 @@
 // Which classes are in question.
 ghost use Rattle.std.specs.Prelude.{◌≡◌, MatchBool};
 ghost use Rattle.analysis.specs.Naming.{Names};
-ghost use Rattle.analysis.specs.Parts.{IsPart};
-ghost use Rattle.find_names.specs.FileTokens.{AreFileTokens, is_part};
+ghost use Rattle.analysis.specs.Parts.{AreMembers, IsPart};
+ghost use Rattle.find_names.specs.FileTokens.{AreFileTokens};
 ghost use Rattle.find_names.specs.Question.{IsInQuestion, IsKeywordClass, IsNameable, IsNamed, IsWholeKeyword};
 
-use crate::file_tokens::FileTokens;
+use crate::file_tokens::{FileTokens, is_part};
 use crate::keywords::is_keyword;
 use analysis::Analysis;
 use cs_base::Part;
@@ -22,13 +22,6 @@ fn part_named(a: &Analysis, path: &[u8], line: u32, column: u32) -> Option<Part>
     }
 }
 
-fn is_part(part: Part, other: Part) -> bool
-    ensures { result ≡ is_part part other }
-{
-    (part.start.file == other.start.file && part.start.at == other.start.at)
-        && part.len == other.len
-}
-
 // Whether the place at which a part begins names the part.
 fn is_named(a: &Analysis, part: Part) -> bool
     requires { IsPart a.now.value part }
@@ -42,11 +35,10 @@ fn is_named(a: &Analysis, part: Part) -> bool
 }
 
 // Whether some member of the class is named.
-fn is_nameable(a: &Analysis, part: Part) -> bool
-    requires { IsPart a.now.value part }
+fn is_nameable(a: &Analysis, part: Part, members: &[Part]) -> bool
+    requires { AreMembers a.now.value part members.now }
     ensures { MatchBool result (IsNameable a.now.value part) (IsNameable a.now.value part → ⊥) }
 {
-    let members = a.members(part);
     for member in members {
         if is_named(a, *member) {
             return true;
@@ -58,7 +50,7 @@ fn is_nameable(a: &Analysis, part: Part) -> bool
 // Whether a part is a whole token that is a keyword.
 fn is_whole_keyword(a: &Analysis, tokens: &FileTokens, part: Part) -> bool
     requires part { IsPart a.now.value part }
-    requires tokens { AreFileTokens a.now.value tokens.now }
+    requires tokens { AreFileTokens a.now.value tokens.now.spans.items }
     ensures { MatchBool result (IsWholeKeyword a.now.value part) (IsWholeKeyword a.now.value part → ⊥) }
 {
     if !tokens.has(a, part) {
@@ -68,12 +60,11 @@ fn is_whole_keyword(a: &Analysis, tokens: &FileTokens, part: Part) -> bool
 }
 
 // Whether some member of the class is one.
-fn is_keyword_class(a: &Analysis, tokens: &FileTokens, part: Part) -> bool
-    requires part { IsPart a.now.value part }
-    requires tokens { AreFileTokens a.now.value tokens.now }
+fn is_keyword_class(a: &Analysis, tokens: &FileTokens, part: Part, members: &[Part]) -> bool
+    requires members { AreMembers a.now.value part members.now }
+    requires tokens { AreFileTokens a.now.value tokens.now.spans.items }
     ensures { MatchBool result (IsKeywordClass a.now.value part) (IsKeywordClass a.now.value part → ⊥) }
 {
-    let members = a.members(part);
     for member in members {
         if is_whole_keyword(a, tokens, *member) {
             return true;
@@ -82,14 +73,19 @@ fn is_keyword_class(a: &Analysis, tokens: &FileTokens, part: Part) -> bool
     false
 }
 
-/// Whether the class of a part is in question.
-pub(crate) fn is_in_question(a: &Analysis, tokens: &FileTokens, part: Part) -> bool
-    requires part { IsPart a.now.value part }
-    requires tokens { AreFileTokens a.now.value tokens.now }
+/// Whether the class of a part, which has these members, is in question.
+pub(crate) fn is_in_question(
+    a: &Analysis,
+    tokens: &FileTokens,
+    part: Part,
+    members: &[Part],
+) -> bool
+    requires members { AreMembers a.now.value part members.now }
+    requires tokens { AreFileTokens a.now.value tokens.now.spans.items }
     ensures { MatchBool result (IsInQuestion a.now.value part) (IsInQuestion a.now.value part → ⊥) }
 {
-    if is_keyword_class(a, tokens, part) {
+    if is_keyword_class(a, tokens, part, members) {
         return false;
     }
-    is_nameable(a, part)
+    is_nameable(a, part, members)
 }

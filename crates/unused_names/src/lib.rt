@@ -24,4 +24,4 @@ mod unused_classes;
 pub use inclusions::{end_of, is_enter, tokens_before};
 pub use last_uses::{gives_meaning, name_of};
 pub use unneeded_lines::unneeded;
-pub use unused_classes::{is_unused, unused};
+pub use unused_classes::{is_unused_class, unused};

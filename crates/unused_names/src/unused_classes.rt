@@ -4,7 +4,7 @@ ghost use Rattle.std.specs.Str.{bytes_eq};
 ghost use Rattle.analysis.specs.Parts.{IsFirst, IsPart};
 ghost use Rattle.class_marks.specs.Marks.{AreMarked};
 ghost use Rattle.class_marks.specs.Roles.{names_with};
-ghost use Rattle.class_marks.specs.Touching.{AreReadOnly};
+ghost use Rattle.class_marks.specs.Touching.{AreReadOnly, HasRole, IsReadOnlyClass};
 ghost use Rattle.unused_names.specs.Unused.{AreUnused, IsDeclaredAlone, IsUnused};
 ghost use Rattle.class_marks.specs.declared.roles.Role.TheVariants as role;
 
@@ -35,9 +35,37 @@ fn is_main(name: &[u8]) -> bool
     name == b"main".as_slice()
 }
 
-/// Whether the first member of a class is one that is declared and not used, by the marks of both roles and the files that are
-/// read-only.
-pub fn is_unused(a: &Analysis, declared: &[bool], used: &[bool], files: &[bool], part: Part) -> bool
+/// Whether the first member of a class is one that is unused, where it is known of the class whether some name declares it, whether
+/// one uses it, and whether a member lies in a read-only file.
+pub fn is_unused_class(
+    a: &Analysis,
+    declared: bool,
+    used: bool,
+    read_only: bool,
+    part: Part,
+) -> bool
+    requires first { IsFirst a.now.value part }
+    requires declared { MatchBool declared (HasRole a.now.value role.Declares part) (HasRole a.now.value role.Declares part → ⊥) }
+    requires used { MatchBool used (HasRole a.now.value role.Uses part) (HasRole a.now.value role.Uses part → ⊥) }
+    requires read_only { MatchBool read_only (IsReadOnlyClass a.now.value part) (IsReadOnlyClass a.now.value part → ⊥) }
+    ensures { MatchBool result (IsUnused a.now.value part) (IsUnused a.now.value part → ⊥) }
+{
+    if !declared {
+        return false;
+    }
+    if used {
+        return false;
+    }
+    if read_only {
+        return false;
+    }
+    let is_main = is_main(a.spelling(part));
+    !is_main
+}
+
+// Whether the first member of a class is one that is declared and not used, by the marks of both roles and the files that are
+// read-only.
+fn is_unused(a: &Analysis, declared: &[bool], used: &[bool], files: &[bool], part: Part) -> bool
     requires first { IsFirst a.now.value part }
     requires declared { AreMarked a.now.classes (names_with role.Declares a.now.value) declared.now }
     requires used { AreMarked a.now.classes (names_with role.Uses a.now.value) used.now }

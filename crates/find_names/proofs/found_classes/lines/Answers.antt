@@ -12,13 +12,31 @@ loop-part-init c = record {
   told = c.of-told.ensures;
 }
 
-pub is_found-requires-clause-first : goal.is_found-requires-clause-first
-is_found-requires-clause-first c =
-    c.firsts-firsts.ensures.each c.loop-part.part-index _ (slice_get-get_or c.firsts-firsts.result.now c.loop-part.part-index _ c.loop-part-test.true)
+pub class_number_near-class-requires : goal.class_number_near-class-requires
+class_number_near-class-requires c =
+    (c.firsts-firsts.ensures.each c.loop-part.part-index _ (slice_get-get_or c.firsts-firsts.result.now c.loop-part.part-index _ c.loop-part-test.true)).is_part
+
+pub members-members-requires : goal.members-members-requires
+members-members-requires c =
+    (c.firsts-firsts.ensures.each c.loop-part.part-index _ (slice_get-get_or c.firsts-firsts.result.now c.loop-part.part-index _ c.loop-part-test.true)).is_part
+
+pub facts_of-facts-requires-clause-class : goal.facts_of-facts-requires-clause-class
+facts_of-facts-requires-clause-class c = record {
+  first = c.firsts-firsts.ensures.each c.loop-part.part-index _ (slice_get-get_or c.firsts-firsts.result.now c.loop-part.part-index _ c.loop-part-test.true);
+  are_members = c.members-members.ensures;
+}
+
+pub is_found-requires-clause-class : goal.is_found-requires-clause-class
+is_found-requires-clause-class c = record {
+  first = c.firsts-firsts.ensures.each c.loop-part.part-index _ (slice_get-get_or c.firsts-firsts.result.now c.loop-part.part-index _ c.loop-part-test.true);
+  are_members = c.members-members.ensures;
+}
 
 pub push_line-requires : goal.push_line-requires
-push_line-requires c =
-    (c.firsts-firsts.ensures.each c.loop-part.part-index _ (slice_get-get_or c.firsts-firsts.result.now c.loop-part.part-index _ c.loop-part-test.true)).is_part
+push_line-requires c = record {
+  first = c.firsts-firsts.ensures.each c.loop-part.part-index _ (slice_get-get_or c.firsts-firsts.result.now c.loop-part.part-index _ c.loop-part-test.true);
+  are_members = c.members-members.ensures;
+}
 
 pub loop-part-preserved : goal.loop-part-preserved
 loop-part-preserved c = record {
