@@ -14,4 +14,5 @@ pub mod FailingLemmas
 mod QuietLemmas
 mod CallLemmas
 mod GnuLemmas
+mod LibraryLemmas
 pub mod Below

@@ -1,6 +1,6 @@
 -- Calls in units of GNU C of functions that no unit of their project declares (this project's, over ISO/IEC 9899:1990, 6.3.2.2, and
 -- ISO/IEC 9899:1999, 6.2.2): such a function is another program's, as a library's, and the calls alone would be renamed.
-use Rattle.std.specs.Prelude.{ℕ, ◌≡◌, ◌&&◌, ◌==◌, not, if◌then◌else◌, Bool, List, [], ◌∷◌, map, slice_get}
+use Rattle.std.specs.Prelude.{ℕ, ◌≡◌, ◌&&◌, ◌==◌, not, if◌then◌else◌, Bool, List, [], ◌∷◌, slice_get}
 use Rattle.std.specs.List.{flat_map, list_any}
 use Rattle.std.specs.Option.{option_map_or}
 use Rattle.std.specs.Str.{bytes_eq}

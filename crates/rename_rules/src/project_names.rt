@@ -4,7 +4,7 @@ ghost use Rattle.std.specs.List.{flat_map};
 ghost use Rattle.std.specs.Option.{option_map_or};
 ghost use Rattle.rename_rules.specs.Undeclared.{declared_by, declared_in, declares_external, held_name, is_declared, is_of, project_at, project_name, project_unit, HaveNames};
 
-use analysis::{Bound, Name, UnitAt, is_external};
+use analysis::{Analysis, Bound, Name, UnitAt, is_external};
 use cs_base::{Memory, Tok, Unit};
 use offences::{Class, holds_member};
 use std::alloc::Global;
@@ -33,14 +33,21 @@ impl ProjectName {
     }
 }
 
-/// The project of unit `k` of a workspace; a unit that it does not have is of that without a name.
-pub(crate) fn project_at(units: &[Unit], k: u32) -> &[u8]
+// The project of unit `k` of a workspace; a unit that it does not have is of that without a name.
+fn project_at(units: &[Unit], k: u32) -> &[u8]
     ensures { result.now ≡ project_at units.now k }
 {
     match units.get(k as usize) {
         Some(unit) => unit.project().bytes(),
         None => &[],
     }
+}
+
+/// The same of the workspace that is analysed.
+pub(crate) fn project_of(a: &Analysis, k: u32) -> &[u8]
+    ensures { result.now ≡ project_at a.now.value.workspace.units k }
+{
+    project_at(a.workspace().units(), k)
 }
 
 /// Whether one of these names is so spelled in the project.

@@ -9,7 +9,7 @@ ghost use Rattle.rename_rules.specs.GnuOffences.{held_text, is_label, is_symbol,
 ghost use Rattle.rename_rules.specs.GnuTexts.{AddTexts, HaveTexts, symbol_in};
 ghost use Rattle.rename_rules.specs.Undeclared.{declared, HaveNames};
 
-use crate::project_names::{ProjectName, project_at, push_declared};
+use crate::project_names::{ProjectName, project_of, push_declared};
 use analysis::{Bound, EntityKind, Linkage, Name};
 use cs_base::{Memory, Tok};
 use offences::{Class, holds_member};
@@ -126,7 +126,6 @@ pub(crate) fn old_spellings(alloc: Global, class: &Class<'_>) -> Result<OldSpell
     ensures own { IfOk result (λ olds. HaveNames olds.names.items (declared class.now.analysis.value class.now.members)) }
 {
     let a = class.analysis();
-    let units = a.workspace().units();
     let mut texts = Vec::new(alloc);
     let mut names = Vec::new(alloc);
     for unit in 0..a.units() {
@@ -134,7 +133,7 @@ pub(crate) fn old_spellings(alloc: Global, class: &Class<'_>) -> Result<OldSpell
         let bound = one.bound();
         let text = one.text();
         push_names(&mut texts, class, bound, text.toks(), bound.names())?;
-        push_declared(alloc, &mut names, class, project_at(units, unit), &one)?;
+        push_declared(alloc, &mut names, class, project_of(a, unit), &one)?;
     }
     Ok(OldSpellings { texts, names })
 }

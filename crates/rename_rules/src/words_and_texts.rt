@@ -11,7 +11,7 @@ ghost use Rattle.rename_rules.specs.GnuUnits.{AreTold, IsAgainstUnit};
 use crate::first_calls::at_calls;
 use crate::gnu_texts::{in_texts, may_be_named};
 use crate::member_offences::in_token;
-use crate::project_names::project_at;
+use crate::project_names::project_of;
 use crate::renamings::Renaming;
 use crate::symbols::{OldSpellings, old_spellings};
 use analysis::{Analysis, Bound, UnitAt};
@@ -170,7 +170,7 @@ fn in_unit(
         return Ok(first);
     }
     let one = a.unit(alloc, unit)?;
-    let project = project_at(a.workspace().units(), unit - 1);
+    let project = project_of(a, unit - 1);
     let calls = at_calls(a, renaming.class(), &olds.names, project, &one, first);
     in_read(alloc, a, renaming, &olds.texts, &one, calls)
 }

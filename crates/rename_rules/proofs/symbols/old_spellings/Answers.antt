@@ -1,11 +1,11 @@
-use Rattle.std.proofs.Common.{ℕ, ◌≡◌, ◌≤◌, ◌++◌, [], List, ap, arith, length, subst, ◌∙◌}
+use Rattle.std.proofs.Common.{ℕ, [], List, ap, arith, length, subst, ◌∙◌}
 use Rattle.analysis.specs.Below.scope_bind.Bound.{Bound}
 use Rattle.analysis.specs.Below.unit_steps.Texts.{UnitTextValue}
 use Rattle.analysis.specs.Analysed.{Analysed}
 use Rattle.analysis.proofs.OneUnitLemmas.{unit_of_number}
 use Rattle.rename_rules.specs.GnuOffences.{symbols, symbols_in}
 use Rattle.rename_rules.specs.GnuTexts.{AddTexts}
-use Rattle.rename_rules.specs.Undeclared.{declared, declared_in, project_at, project_unit, project_units, HaveNames}
+use Rattle.rename_rules.specs.Undeclared.{declared, declared_in, project_at, project_unit, project_units}
 use Rattle.rename_rules.proofs.CallLemmas.{as_many, have_all, have_next, unit_in_project}
 use Rattle.rename_rules.proofs.GnuLemmas.{symbols_same, units_next, units_all}
 use Rattle.rename_rules.proofs.symbols.old_spellings.Goals as goal
@@ -25,7 +25,7 @@ loop-unit-preserved c =
           (subst (λ (ys : List (List ℕ)). AddTexts c.loop-unit.texts.items ys c.push_names.new.olds.items) same c.in_ok-push_names.ensures),
       have_next (declared_in class.members) (project_units a.workspace.units a.units) k (project_unit (project_at a.workspace.units k) u) [] c.loop-unit.names.items
           c.push_declared.new.names.items (unit_in_project a.workspace.units a.units k u at) c.loop-unit.invariant.1
-          c.in_ok-push_declared.ensures,
+          (rw (rw c.analysis-a.ensures at c.project_of.ensures) at c.in_ok-push_declared.ensures),
     )
 
 pub returns-clause-known : goal.returns-clause-known

@@ -1,4 +1,4 @@
-use Rattle.std.proofs.Common.{Ok}
+use Rattle.std.proofs.Common.{ℕ, Ok}
 use Rattle.std.specs.List.{flat_map}
 use Rattle.std.specs.Prelude.{◌++◌}
 use Rattle.rename_rules.specs.GnuOffences.{has_gnu}
@@ -20,4 +20,4 @@ returns c =
     let before = rw (c.has_gnu-gnu.ensures, c.toks.ensures, c.name.ensures, c.analysis-a.ensures, c.class-class.ensures) at c.in_ok-words.ensures in
     let here = rw (c.analysis-a.ensures, c.class-class.ensures) at c.in_ok-joined.ensures in
     then_also a.table (words ++ joined) (library_places a class.members name) c.args.first c.in_ok-joined.joined c.library_names.result
-    (then_also a.table words joined c.args.first _ (Ok c.in_ok-joined.joined) before here) c.library_names.ensures
+    (then_also {E = ℕ} a.table words joined c.args.first _ (Ok c.in_ok-joined.joined) before here) c.library_names.ensures

@@ -17,5 +17,5 @@ returns c =
     (IsAgainstUnit a class.members name olds.texts.items olds.names.items c.args.unit c.args.first)
     (λ (now : Option Offence) here.
     unit_against a class.members name c.args.first c.at_calls-calls.result now olds.texts.items olds.names.items c.args.unit u c.in_ok-one.ensures
-    (told_gnu unit u c.gnu_begin.result c.in_ok-one.ensures c.gnu_begin.ensures c.if-is_none.ensures) c.at_calls-calls.ensures here)
-    c.in_read.ensures
+    (told_gnu unit u c.gnu_begin.result c.in_ok-one.ensures c.gnu_begin.ensures c.if-is_none.ensures) (rw (c.class.ensures, c.deref.ensures.value, c.project_of-project.ensures) at c.at_calls-calls.ensures) here)
+    (rw c.deref-2.ensures.value at c.in_read.ensures)

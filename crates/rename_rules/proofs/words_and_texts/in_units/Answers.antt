@@ -14,7 +14,7 @@ loop-unit-preserved c =
     against_next a class.members c.args.renaming.now.name olds.texts.items olds.names.items c.loop-unit.unit c.args.first c.loop-unit.now _
     (omega (arith, ap (λ (x : Analysed). length x.value.units) same, c.units-unit-end.ensures, c.loop-unit-test.true))
     (rw c.class-class.ensures at c.in_ok-olds.ensures.known) (rw c.class-class.ensures at c.in_ok-olds.ensures.own) c.loop-unit.invariant
-    (rw (same, c.deref.ensures.value) at c.in_ok-now.ensures)
+    (rw same at c.in_ok-now.ensures)
 
 pub returns : goal.returns
 unfolding gnu_offences
